@@ -1,0 +1,51 @@
+//! SHA-1 digests, and their text.
+
+ghost use Rattle.std.specs.Prelude.{◌≡◌, ℕ, List, IfSome, IfNone};
+ghost use Rattle.px_base.specs.Hash.{hash_of, hash_text, is_hex_digit, IsHash, IsHashText};
+
+/// A SHA-1 digest (FIPS 180-4). Votes, and the names of Git's objects, are such digests.
+#[derive(Clone, Copy, Debug, PartialEq, Eq)]
+pub struct Hash(pub [u8; 20]);
+
+fn is_digit(byte: u8) -> bool
+    ensures { result ≡ is_hex_digit byte }
+{
+    matches!(byte, b'0'..=b'9' | b'a'..=b'f')
+}
+
+impl Hash {
+    /// Reads 40 hexadecimal digits in lower case, which is how Git writes an object name. Takes no memory.
+    pub fn read(text: &[u8]) -> Option<Hash>
+        ensures value { IfSome result (λ hash. hash_text hash ≡ text.now) }
+        ensures is { result ≡ hash_of text.now }
+        ensures lawful { IfSome result (λ hash. IsHashText text.now) }
+        ensures refused { IfNone result (¬ (IsHashText text.now)) }
+    {
+        if !text.iter().all(|byte| is_digit(*byte)) {
+            return None;
+        }
+        let mut bytes = [0; 20];
+        match hex::decode_to_slice(text, &mut bytes) {
+            Ok(()) => Some(Hash(bytes)),
+            Err(_) => None,
+        }
+    }
+
+    /// The 40 hexadecimal digits, in lower case. Takes no memory.
+    pub fn text(&self) -> [u8; 40]
+        ensures { result ≡ hash_text self.now }
+    {
+        let mut text = [0; 40];
+        let _ = hex::encode_to_slice(self.0.as_slice(), &mut text);
+        text
+    }
+}
+
+/// A law: the text of a hash reads back as that hash, and what reads as a hash is its text. So no hash has two texts,
+/// and no text is that of two hashes.
+pub fn a_hash_and_its_text_are_one()
+    ensures read { (hash : Hash) → IsHash hash → hash_of (hash_text hash) ≡ Some hash }
+    ensures written { (text : List ℕ) (hash : Hash) → hash_of text ≡ Some hash
+        → IsHash hash × (hash_text hash ≡ text) }
+{
+}

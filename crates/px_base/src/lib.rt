@@ -1,0 +1,27 @@
+//! What every crate of the cluster speaks of: names, hashes, numbers, voters, and the streams that bytes come in and
+//! go out by.
+#![tactic(auto)]
+
+mod hash;
+mod ids;
+mod items;
+mod lines;
+mod memory;
+mod sink;
+mod source;
+mod standard;
+mod storage_name;
+mod voter;
+mod words;
+
+pub use hash::{Hash, a_hash_and_its_text_are_one};
+pub use ids::TxId;
+pub use items::{Bytes, Items};
+pub use lines::{LineEnd, Piece, line, read_piece};
+pub use memory::{MemSink, MemSource};
+pub use sink::{Sink, WriteEnd, WrittenEnd, write_all};
+pub use source::{ReadEnd, Source};
+pub use standard::{StdSink, StdSource};
+pub use storage_name::{NameFault, StorageName};
+pub use voter::Voter;
+pub use words::Words;

@@ -1,0 +1,88 @@
+//! Lines of a source, one at a time.
+
+ghost use Rattle.std.specs.Prelude.{◌≡◌, ◌≤◌, ℕ};
+ghost use Rattle.px_base.specs.Line.{PieceGives, PieceHasCause, LineGives, LineHasCause};
+
+use crate::{Bytes, ReadEnd, Source};
+use std::alloc::Global;
+
+const LF: u8 = b'\n';
+
+/// What reading a line came to, where the caller has to know whether its line feed came.
+#[derive(Drop)]
+pub enum Piece {
+    /// A line, whose line feed came and is not in it.
+    Line(Bytes),
+    /// The last line, which has a byte and no line feed.
+    Last(Bytes),
+    /// Nothing was left.
+    End,
+    /// One byte more than may stand in a line came, with no line feed among them.
+    TooLong,
+    /// The source failed, and its count rose.
+    ReadFault,
+    /// Memory wanted.
+    Memory,
+}
+
+/// What reading a line came to.
+#[derive(Drop)]
+pub enum LineEnd {
+    /// A line without its line feed. A last line that lacks it is a line.
+    Line(Bytes),
+    /// Nothing was left.
+    End,
+    /// One byte more than may stand in a line came, with no line feed among them.
+    TooLong,
+    /// The source failed, and its count rose.
+    ReadFault,
+    /// Memory wanted.
+    Memory,
+}
+
+/// Reads a line of at most `max` bytes beside its line feed, a byte at a time: no byte behind the line is taken. The
+/// bytes that were read are spent, whatever comes.
+pub fn read_piece<S: Source>(alloc: Global, source: &mut S, max: usize) -> Piece
+    ensures bytes { PieceGives max (S.left source.old) (S.left source.new) result }
+    ensures cause { PieceHasCause (S.read_faults source.old) (S.read_faults source.new) result }
+{
+    let mut bytes = Bytes::new(alloc);
+    loop {
+        let mut byte = [0u8; 1];
+        match source.read(&mut byte) {
+            ReadEnd::Took(_) => {}
+            ReadEnd::End => {
+                if bytes.is_empty() {
+                    return Piece::End;
+                }
+                return Piece::Last(bytes);
+            }
+            ReadEnd::Failed => return Piece::ReadFault,
+        }
+        let [next] = byte;
+        if next == LF {
+            return Piece::Line(bytes);
+        }
+        if bytes.len() >= max {
+            return Piece::TooLong;
+        }
+        if bytes.push(next).is_err() {
+            return Piece::Memory;
+        }
+    }
+}
+
+/// Reads a line of at most `max` bytes beside its line feed. The bytes that were read are spent, whatever comes.
+pub fn line<S: Source>(alloc: Global, source: &mut S, max: usize) -> LineEnd
+    ensures bytes { LineGives max (S.left source.old) (S.left source.new) result }
+    ensures cause { LineHasCause (S.read_faults source.old) (S.read_faults source.new) result }
+{
+    match read_piece(alloc, source, max) {
+        Piece::Line(bytes) => LineEnd::Line(bytes),
+        Piece::Last(bytes) => LineEnd::Line(bytes),
+        Piece::End => LineEnd::End,
+        Piece::TooLong => LineEnd::TooLong,
+        Piece::ReadFault => LineEnd::ReadFault,
+        Piece::Memory => LineEnd::Memory,
+    }
+}

@@ -1,0 +1,60 @@
+//! The words of a command line.
+
+ghost use Rattle.std.specs.Prelude.{◌≡◌, ◌↔◌, [], ◌∷◌, ◌++◌, List, ℕ, length, map, string_bytes, IsTrue, OnOk, OnErr};
+
+use std::alloc::{AllocError, Global};
+use std::marker::Model;
+
+/// A list of texts.
+#[derive(Drop)]
+pub struct Words {
+    items: Vec<String>,
+}
+
+impl Model for Words {
+    ghost Value = { List (List ℕ) };
+
+    ghost view = { λ w. map string_bytes w.items.items };
+}
+
+impl Words {
+    pub fn new(alloc: Global) -> Self
+        ensures { result ≡ [] }
+    {
+        Words {
+            items: Vec::new(alloc),
+        }
+    }
+
+    /// Adds a copy of a text at the end.
+    pub fn push(&mut self, alloc: Global, word: &str) -> Result<(), AllocError>
+        ensures ok { OnOk result (self.new ≡ self.old ++ word.now ∷ []) }
+        ensures err { OnErr result (self.new ≡ self.old) }
+    {
+        let copy = String::from_str(alloc, word)?;
+        self.items.push(copy)?;
+        Ok(())
+    }
+
+    pub fn len(&self) -> usize
+        ensures { result ≡ length self.now }
+    {
+        self.items.len()
+    }
+
+    pub fn is_empty(&self) -> bool
+        ensures { IsTrue result ↔ (self.now ≡ []) }
+    {
+        self.items.is_empty()
+    }
+
+    /// Whether this text is the only one.
+    pub fn is_only(&self, word: &str) -> bool
+        ensures { IsTrue result ↔ (self.now ≡ word.now ∷ []) }
+    {
+        match self.items.as_slice() {
+            [one] => one.as_str() == word,
+            _ => false,
+        }
+    }
+}

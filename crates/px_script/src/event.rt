@@ -1,0 +1,57 @@
+//! What a line of a script may ask for.
+
+use px_base::{Hash, Items, StorageName, TxId, Voter};
+
+/// One step of a rehearsal, as a line of its script asks for it.
+#[derive(Drop)]
+pub enum Event {
+    /// Opens the voting on a push. Its transaction gets the next number.
+    Open {
+        /// The weight that decides.
+        threshold: u64,
+        /// Who may vote, in the order of the line. There may be none, and one name may stand twice.
+        voters: Items<Voter>,
+    },
+    /// A voter votes for a hash in the prepared phase.
+    Cast {
+        /// The transaction that is voted on.
+        tx: TxId,
+        /// Who votes.
+        voter: StorageName,
+        /// What the vote is for.
+        hash: Hash,
+    },
+    /// A voter takes no further part.
+    Withdraw {
+        /// The transaction that the voter leaves.
+        tx: TxId,
+        /// Who leaves.
+        voter: StorageName,
+    },
+    /// Cancels a transaction, with each voter in it.
+    Cancel {
+        /// The transaction.
+        tx: TxId,
+    },
+    /// Stops a transaction: what is decided stays, and nothing more is.
+    Stop {
+        /// The transaction.
+        tx: TxId,
+    },
+    /// Asks for a voter's result.
+    Collect {
+        /// The transaction.
+        tx: TxId,
+        /// Whose result is asked for.
+        voter: StorageName,
+        /// The number of the subtransaction. The first one is 0.
+        sub: u32,
+    },
+    /// Asks for the outcome of a subtransaction.
+    Outcome {
+        /// The transaction.
+        tx: TxId,
+        /// The number of the subtransaction. The first one is 0.
+        sub: u32,
+    },
+}

@@ -1,0 +1,18 @@
+//! The world of a rehearsal: transactions that the lines of a script open, vote on, and end.
+#![tactic(auto)]
+
+mod refusal;
+mod rehearsal;
+mod reply;
+mod text;
+mod transaction;
+mod world;
+
+pub use px_script::Event;
+pub use px_shell::RehearseEnd;
+pub use refusal::Refusal;
+pub use rehearsal::{MAX_INPUT_BYTES, rehearse, rehearse_within};
+pub use reply::Reply;
+pub use text::line_of;
+pub use transaction::Transaction;
+pub use world::World;

@@ -1,0 +1,68 @@
+//! The rehearsal of a script: a world, and the lines that drive it.
+
+ghost use Rattle.px_shell.specs.Acts.{Acts};
+ghost use Rattle.px_shell.specs.Ends.{EndHasCause};
+ghost use Rattle.px_world.specs.Machine.{machine};
+ghost use Rattle.px_world.specs.Rehearsal.{Rehearses};
+
+use crate::{Event, Reply, World, line_of};
+use px_base::{Sink, Source};
+use px_script::{ScriptLine, read_line};
+use px_shell::{Act, RehearseEnd, StateMachine, run_script};
+use std::alloc::Global;
+
+/// The most bytes that a script may have.
+pub const MAX_INPUT_BYTES: u64 = 1 << 40;
+
+impl StateMachine for World {
+    type Event = Event;
+
+    type Reply = Reply;
+
+    ghost use Rattle.px_world.specs.Machine.{machine};
+
+    ghost machine = { machine };
+
+    fn act(&mut self, alloc: Global, line: &[u8]) -> Act {
+        let event = match read_line(alloc, line) {
+            ScriptLine::Asks(event) => event,
+            ScriptLine::Nothing => return Act::Nothing,
+            ScriptLine::Bad => return Act::Bad,
+            ScriptLine::Memory => return Act::Memory,
+        };
+        let Ok(reply) = self.step(alloc, &event) else {
+            return Act::Memory;
+        };
+        match line_of(alloc, &reply) {
+            Ok(text) => Act::Prints(text),
+            Err(_) => Act::Memory,
+        }
+    }
+}
+
+/// Rehearses a script of at most `limit` bytes, from the empty world. Each line is done and printed before the next one
+/// is read.
+pub fn rehearse_within<S: Source, O: Sink>(
+    alloc: Global,
+    limit: u64,
+    input: &mut S,
+    out: &mut O,
+) -> RehearseEnd
+    ensures run { Rehearses limit (S.left input.old) (S.left input.new)
+        (O.taken out.old) (O.taken out.new) result }
+    ensures cause { EndHasCause (S.read_faults input.old) (S.read_faults input.new)
+        (O.write_faults out.old) (O.write_faults out.new) result }
+{
+    let mut world = World::new(alloc);
+    run_script(alloc, &mut world, limit, input, out)
+}
+
+/// Rehearses a script, from the empty world.
+pub fn rehearse<S: Source, O: Sink>(alloc: Global, input: &mut S, out: &mut O) -> RehearseEnd
+    ensures run { Rehearses MAX_INPUT_BYTES (S.left input.old) (S.left input.new)
+        (O.taken out.old) (O.taken out.new) result }
+    ensures cause { EndHasCause (S.read_faults input.old) (S.read_faults input.new)
+        (O.write_faults out.old) (O.write_faults out.new) result }
+{
+    rehearse_within(alloc, MAX_INPUT_BYTES, input, out)
+}

@@ -1,0 +1,17 @@
+pub mod ActsLemmas
+pub mod AgreeLemmas
+pub mod CallLemmas
+pub mod CallRuleLemmas
+pub mod CancelAllLemmas
+pub mod ContainLemmas
+pub mod CountLemmas
+pub mod DistinctLemmas
+pub mod FirstLemmas
+pub mod KeepLemmas
+pub mod LostLemmas
+pub mod MarkLemmas
+pub mod OutcomeLemmas
+pub mod MarkRuleLemmas
+pub mod StepLemmas
+pub mod SubLemmas
+pub mod TallyLemmas

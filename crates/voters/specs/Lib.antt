@@ -1,0 +1,13 @@
+pub mod Calls
+pub mod Count
+pub mod MarkRule
+pub mod Marks
+pub mod Panel
+pub mod Prefixes
+pub mod Refusals
+pub mod Results
+pub mod Rule
+pub mod Sub
+pub mod Tallies
+pub mod Verdict
+pub mod Votes

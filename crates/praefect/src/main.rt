@@ -4,6 +4,7 @@
 use px_base::{StdSink, StdSource, Words};
 use px_top::{run, tell_memory};
 use std::env;
+use std::io::ErrorKind;
 use std::process::ExitCode;
 use std::rt::Env;
 
@@ -11,10 +12,14 @@ use std::rt::Env;
 /// no command: none is handed on.
 fn words_of<R: Env + AllocGlobal>(rt: &R) -> Option<Words> {
     let mut words = Words::new(rt.alloc());
-    if let Ok(args) = env::args(rt) {
-        for word in args.skip(1) {
-            words.push(rt.alloc(), word.as_str()).ok()?;
+    match env::args(rt) {
+        Ok(args) => {
+            for word in args.skip(1) {
+                words.push(rt.alloc(), word.as_str()).ok()?;
+            }
         }
+        Err(error) if error.kind() == ErrorKind::OutOfMemory => return None,
+        Err(_) => {}
     }
     Some(words)
 }

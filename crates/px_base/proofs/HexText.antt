@@ -1,13 +1,12 @@
 -- Lower-case hexadecimal digits are the text of the bytes that they read as.
-use Rattle.std.proofs.Common.{◌≡◌, ◌≤◌, ◌+◌, ◌-◌, ◌*◌, ◌/◌, ◌%◌, ◌<◌, ◌&&◌, ℕ, zero, suc, true, List, [], ◌∷◌, length, slice_index, nat_lt, nat_le, if◌then◌else◌, arith, refl, ap, sym, ◌∙◌, ◌⊎◌, inl, inr}
+use Rattle.std.proofs.Common.{◌≡◌, ◌≤◌, ◌+◌, ◌-◌, ◌*◌, ◌/◌, ◌%◌, ◌<◌, ℕ, zero, suc, true, List, [], ◌∷◌, length, slice_index, nat_lt, if◌then◌else◌, arith, refl, ap, sym, ◌∙◌, inl, inr}
 use Rattle.std.proofs.lemmas.Bool.{cases_lt}
 use Rattle.std.proofs.lemmas.Grind.{common_steps}
 use Rattle.std.proofs.lemmas.List.Elements.{All-cons, All-head, All-nil, All-tail}
 use Rattle.std.proofs.lemmas.List.Sums.{AllPass-from_list_all, list_all-from_AllPass}
 use Rattle.std.specs.List.{AllPass, list_all}
 use Rattle.std.specs.Prelude.{MatchResult, Result, Ok, Err}
-use Rattle.std.proofs.Common.{subst, Option, None, Some, Bool, false}
-use Rattle.std.specs.Result.{result_ok}
+use Rattle.std.proofs.Common.{subst, None, Some, Bool, false}
 use Rattle.hex.specs.Hex.{encode_lower, encode_with, decode_sized, lower_digits, IsBytes}
 use Rattle.hex.specs.declared.error.FromHexError.{FromHexError}
 use Rattle.hex.proofs.HexLemmas.{decode_of-ok, decode_sized-encode_lower, decode_sized-ok, decode_sized-twice, length-encode_with}
@@ -149,6 +148,7 @@ hash_of-some text hash is =
     let digits = AllPass-from_list_all is_hex_digit text d.0 in
     let size = decode_sized-ok text 20 hash.0 d.1 in
     let read = decode_of-ok text hash.0 (sym (decode_sized-twice text 20 size) ∙ d.1) in
-    let known : Answers (decode_sized text 20) (Ok tt) hash.0 = subst (λ (r : Result (List ℕ) FromHexError). Answers r (Ok tt) hash.0) (sym d.1) (refl, refl) in
-    (record { size = omega (arith, size, read.2); bytes = read.3 },
-     (reads_hash text hash.0 (Ok tt) (record { size = omega (arith, size); digits = digits }) known).1)
+    let known : Answers (decode_sized text 20) (Ok tt) hash.0 = subst (λ (r : Result (List ℕ) FromHexError). Answers r (Ok tt) hash.0) (sym d.1) (refl, refl) in (
+      record { size = omega (arith, size, read.2); bytes = read.3 },
+      (reads_hash text hash.0 (Ok tt) (record { size = omega (arith, size); digits = digits }) known).1,
+    )

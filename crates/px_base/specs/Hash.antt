@@ -1,5 +1,5 @@
 -- Hashes: their text, and when two are one.
-use Rattle.std.specs.Prelude.{◌≡◌, ◌&&◌, ◌||◌, ◌<◌, nat_le, Bool, List, ℕ, length, if◌then◌else◌, Option, Some, None, Result, Ok, Err}
+use Rattle.std.specs.Prelude.{◌≡◌, ◌&&◌, ◌||◌, nat_le, Bool, List, ℕ, length, if◌then◌else◌, Option, Some, None, Result, Ok, Err}
 use Rattle.std.specs.Bool.{Decides}
 use Rattle.std.specs.List.{AllPass, list_all}
 use Rattle.std.specs.Str.{bytes_eq}
@@ -27,6 +27,7 @@ pub record IsHash (hash : Hash) : Type 0 where
   pub size : length hash.0 ≡ 20
   pub bytes : IsBytes hash.0
 
+-- the hash of bytes that were read, where they were
 abbrev pub hash_from : Result (List ℕ) FromHexError → Option Hash
 hash_from (Ok bytes) = Some (record { 0 = bytes })
 hash_from (Err e) = None
@@ -39,6 +40,7 @@ hash_of text = if list_all is_hex_digit text then hash_from (decode_sized text 2
 abbrev pub same_hash : Hash → Hash → Bool
 same_hash g h = bytes_eq g.0 h.0
 
+-- it tells whether they are
 pub same_hash-Decides : (g h : Hash) → Decides (same_hash g h) (g ≡ h)
 same_hash-Decides g h =
     let bytes : Decides (same_hash g h) (g.0 ≡ h.0) = bytes_eq-Decides g.0 h.0 in

@@ -47,5 +47,4 @@ pub fn a_hash_and_its_text_are_one()
     ensures read { (hash : Hash) → IsHash hash → hash_of (hash_text hash) ≡ Some hash }
     ensures written { (text : List ℕ) (hash : Hash) → hash_of text ≡ Some hash
         → IsHash hash × (hash_text hash ≡ text) }
-{
-}
+{}

@@ -6,7 +6,8 @@ ghost use Rattle.px_base.specs.StorageName.{IsStorageName, first_bad, is_name_by
 
 use std::marker::Model;
 
-/// The name of a storage: 1 to 64 bytes of `A-Z a-z 0-9 . _ -`.
+/// The name of a storage, or of a virtual one: 1 to 64 bytes of `A-Z a-z 0-9 . _ -`. It lies in a fixed array, so that
+/// it is copied freely.
 #[derive(Clone, Copy, Debug, PartialEq, Eq)]
 pub struct StorageName {
     bytes: [u8; 64],
@@ -29,10 +30,42 @@ impl Model for StorageName {
     ghost inverse_ok = { padded-take };
 }
 
+/// Why a text is no name.
 #[derive(Clone, Copy, Debug, PartialEq, Eq)]
 pub enum NameFault {
-    BadName { at: usize },
+    /// The text is no name of its kind.
+    BadName {
+        /// The place of the first bad byte, from 0: one that may not stand in the name, or one at its greatest length;
+        /// the length of the text where it is too short.
+        at: usize,
+    },
+    /// Memory wanted. A name that lies in a fixed array never answers this.
     Memory,
+}
+
+impl StorageName {
+    /// The name that a text is, or its first bad byte. Takes no memory, so that it never answers `Memory`.
+    pub fn read(text: &[u8]) -> Result<StorageName, NameFault>
+        ensures ok { IfOk result (λ name. IsStorageName text.now × (name ≡ text.now)) }
+        ensures err { IfErr result (λ fault. ¬ (IsStorageName text.now)
+            × (fault ≡ NameFault.BadName (first_bad text.now))) }
+    {
+        let good = allowed_len(text);
+        if good < text.len() || good == 0 || good > 64 {
+            return Err(NameFault::BadName { at: good.min(64) });
+        }
+        Ok(StorageName {
+            bytes: array_of(text),
+            len: good,
+        })
+    }
+
+    /// The bytes of the name.
+    pub fn as_bytes(&self) -> &[u8]
+        ensures { result.now ≡ self.now }
+    {
+        &self.bytes[..self.len]
+    }
 }
 
 fn is_allowed(byte: u8) -> bool
@@ -65,27 +98,4 @@ fn array_of(text: &[u8]) -> [u8; 64]
         bytes[i] = *byte;
     }
     bytes
-}
-
-impl StorageName {
-    /// Takes no memory, so that it never answers `Memory`.
-    pub fn read(text: &[u8]) -> Result<StorageName, NameFault>
-        ensures ok { IfOk result (λ name. IsStorageName text.now × (name ≡ text.now)) }
-        ensures err { IfErr result (λ fault. ¬ (IsStorageName text.now) × (fault ≡ NameFault.BadName (first_bad text.now))) }
-    {
-        let good = allowed_len(text);
-        if good < text.len() || good == 0 || good > 64 {
-            return Err(NameFault::BadName { at: good.min(64) });
-        }
-        Ok(StorageName {
-            bytes: array_of(text),
-            len: good,
-        })
-    }
-
-    pub fn as_bytes(&self) -> &[u8]
-        ensures { result.now ≡ self.now }
-    {
-        &self.bytes[..self.len]
-    }
 }

@@ -5,7 +5,7 @@ ghost use Rattle.std.specs.Prelude.{◌≡◌, ◌↔◌, [], ◌∷◌, ◌++�
 use std::alloc::{AllocError, Global};
 use std::marker::Model;
 
-/// A list of texts.
+/// A list of texts, as those of a command line.
 #[derive(Drop)]
 pub struct Words {
     items: Vec<String>,
@@ -18,6 +18,7 @@ impl Model for Words {
 }
 
 impl Words {
+    /// The empty list. It takes no memory yet.
     pub fn new(alloc: Global) -> Self
         ensures { result ≡ [] }
     {
@@ -26,7 +27,7 @@ impl Words {
         }
     }
 
-    /// Adds a copy of a text at the end.
+    /// Adds a copy of a text at the end. Where memory wants, the list stays.
     pub fn push(&mut self, alloc: Global, word: &str) -> Result<(), AllocError>
         ensures ok { OnOk result (self.new ≡ self.old ++ word.now ∷ []) }
         ensures err { OnErr result (self.new ≡ self.old) }
@@ -36,12 +37,14 @@ impl Words {
         Ok(())
     }
 
+    /// How many texts there are.
     pub fn len(&self) -> usize
         ensures { result ≡ length self.now }
     {
         self.items.len()
     }
 
+    /// Whether there is none.
     pub fn is_empty(&self) -> bool
         ensures { IsTrue result ↔ (self.now ≡ []) }
     {

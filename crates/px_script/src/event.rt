@@ -21,19 +21,19 @@ pub enum Event {
         /// What the vote is for.
         hash: Hash,
     },
-    /// A voter takes no further part.
+    /// A voter is canceled: its vote stands no more, and it casts none.
     Withdraw {
         /// The transaction that the voter leaves.
         tx: TxId,
         /// Who leaves.
         voter: StorageName,
     },
-    /// Cancels a transaction, with each voter in it.
+    /// Cancels each voter of a transaction that is undecided.
     Cancel {
         /// The transaction.
         tx: TxId,
     },
-    /// Stops a transaction: what is decided stays, and nothing more is.
+    /// Stops a transaction that is open: it decides nothing any more.
     Stop {
         /// The transaction.
         tx: TxId,
@@ -44,14 +44,14 @@ pub enum Event {
         tx: TxId,
         /// Whose result is asked for.
         voter: StorageName,
-        /// The number of the subtransaction. The first one is 0.
+        /// The number of the subtransaction. The first one is 1.
         sub: u32,
     },
     /// Asks for the outcome of a subtransaction.
     Outcome {
         /// The transaction.
         tx: TxId,
-        /// The number of the subtransaction. The first one is 0.
+        /// The number of the subtransaction. The first one is 1.
         sub: u32,
     },
 }

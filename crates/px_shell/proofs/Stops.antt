@@ -1,11 +1,10 @@
 -- What each end of a run says, from how far it had come.
-use Rattle.std.proofs.Common.{◌≡◌, ◌≢◌, ◌+◌, ◌-◌, ◌<◌, ◌≤◌, ℕ, List, [], ◌∷◌, ◌++◌, length, Option, Some, None, arith, append_assoc, refl, ap, sym, ◌∙◌, subst, inl, inr, ◌⊎◌}
-use Rattle.std.specs.Io.KnownBytes.{Appends, Consumes, Keeps, IsAtEnd}
-use Rattle.std.proofs.KnownBytes.{Appends-trans, Consumes-trans, Consumes-kept}
+use Rattle.std.proofs.Common.{◌≡◌, ◌+◌, ◌≤◌, ℕ, List, [], ◌∷◌, ◌++◌, length, Option, arith, refl, ap, ◌∙◌, inl, inr, ◌⊎◌}
+use Rattle.std.specs.Io.KnownBytes.{Consumes, Keeps, IsAtEnd}
+use Rattle.std.proofs.KnownBytes.{Consumes-trans, Consumes-kept}
 use Rattle.std.proofs.lemmas.List.{append-nil, length-append}
-use Rattle.px_base.specs.Line.{HasNoLf}
 use Rattle.px_shell.specs.Acts.{Does}
-use Rattle.px_shell.specs.Ends.{PlaysAll, ReadsLine, ReadsOverlong, StopsAtBad, StopsTooLong, StopsUnread, StopsInLine, StopsForMemory}
+use Rattle.px_shell.specs.Ends.{PlaysAll, ReadsLine, StopsAtBad, StopsTooLong, StopsUnread, StopsInLine, StopsForMemory}
 use Rattle.px_shell.specs.Machine.{Machine}
 use Rattle.px_shell.specs.Next.{IsLine, IsLast, IsOverlong, IsTooLong, IsPart}
 use Rattle.px_shell.specs.Play.{PrintsPart}

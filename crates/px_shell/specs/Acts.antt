@@ -1,5 +1,5 @@
 -- What a machine does with one line.
-use Rattle.std.specs.Prelude.{◌≡◌, ◌⊎◌, ℕ, List, Option, Some, None}
+use Rattle.std.specs.Prelude.{◌≡◌, ◌⊎◌, ℕ, List, Some, None}
 use Rattle.px_shell.specs.Machine.{Machine}
 use Rattle.px_shell.specs.Script.{IsBad}
 use Rattle.px_shell.specs.declared.machine.Act.{Act}

@@ -1,11 +1,13 @@
 //! Runs a script over any machine: line by line, each line done and printed before the next one is read.
 #![tactic(auto)]
 
+mod laws;
 mod machine;
 mod next;
 mod playing;
 mod run;
 
+pub use laws::a_text_has_one_list_of_lines;
 pub use machine::{Act, StateMachine};
 pub use run::{RehearseEnd, run_script};
 

@@ -1,8 +1,7 @@
 -- The machine that a rehearsal drives: what each event answers, and where it leads.
-use Rattle.std.specs.Prelude.{ℕ, ◌+◌, ◌-◌, ◌^◌, nat_lt, Bool, true, false, if◌then◌else◌, List, [], ◌∷◌, ◌++◌, Option, None, Some}
+use Rattle.std.specs.Prelude.{◌+◌, ◌-◌, ◌^◌, nat_lt, Bool, true, false, if◌then◌else◌, [], ◌∷◌, ◌++◌, Option, None, Some}
 use Rattle.std.specs.Option.{option_map}
 use Rattle.px_base.specs.declared.ids.TxId.{TxId}
-use Rattle.px_base.specs.declared.voter.Voter.{Voter}
 use Rattle.px_script.specs.Spelling.{Asks}
 use Rattle.px_script.specs.declared.event.Event.{Event}
 use Rattle.px_script.specs.declared.event.Event.TheVariants.{Open, Cast, Withdraw, Cancel, Stop, Collect, Outcome}

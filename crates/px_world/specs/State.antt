@@ -1,5 +1,5 @@
 -- The state of a rehearsal: the transactions, and the last number that one was given.
-use Rattle.std.specs.Prelude.{◌≡◌, ℕ, ◌-◌, ◌<◌, true, nat_lt, if◌then◌else◌, List, [], ◌∷◌, ◌++◌, length, slice_get, slice_set, Option, None, Some}
+use Rattle.std.specs.Prelude.{◌≡◌, ℕ, ◌-◌, ◌<◌, true, nat_lt, if◌then◌else◌, List, [], length, slice_get, slice_set, Option, None, Some}
 use Rattle.px_base.specs.declared.ids.TxId.{TxId}
 use Rattle.px_world.specs.Transaction.{Voting}
 

@@ -1,6 +1,7 @@
 //! The world of a rehearsal: transactions that the lines of a script open, vote on, and end.
 #![tactic(auto)]
 
+mod laws;
 mod refusal;
 mod rehearsal;
 mod reply;
@@ -8,6 +9,7 @@ mod text;
 mod transaction;
 mod world;
 
+pub use laws::lines_ask_one_list_of_events;
 pub use px_script::Event;
 pub use px_shell::RehearseEnd;
 pub use refusal::Refusal;

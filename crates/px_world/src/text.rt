@@ -94,7 +94,11 @@ fn refusal_line(alloc: Global, refusal: &Refusal) -> Text
     match refusal {
         Refusal::NoVoters => plain(alloc, b"refused NoVoters"),
         Refusal::TooManyVoters(n) => with_number(alloc, b"refused TooManyVoters ", *n as u64),
-        Refusal::DuplicateVoter(name) => with_bytes(alloc, b"refused DuplicateVoter ", name.as_bytes()),
+        Refusal::DuplicateVoter(name) => with_bytes(
+            alloc,
+            b"refused DuplicateVoter ",
+            name.as_bytes(),
+        ),
         Refusal::BadThreshold { total, threshold } => bad_threshold(alloc, *total, *threshold),
         Refusal::TransactionsSpent => plain(alloc, b"refused TransactionsSpent"),
         Refusal::UnknownTx(tx) => with_number(alloc, b"refused UnknownTx ", tx.0),

@@ -67,7 +67,12 @@ impl World {
         }
     }
 
-    fn open_transaction(&mut self, alloc: Global, threshold: u64, voters: &[Voter]) -> Result<Reply, AllocError>
+    fn open_transaction(
+        &mut self,
+        alloc: Global,
+        threshold: u64,
+        voters: &[Voter],
+    ) -> Result<Reply, AllocError>
         ensures reply { IfOk result (λ reply. reply ≡ reply_of self.old (Event.Open threshold voters.now)) }
         ensures state { IfOk result (λ reply. self.new ≡ next_state self.old (Event.Open threshold voters.now)) }
         ensures err { OnErr result (self.new ≡ self.old) }

@@ -1,7 +1,6 @@
-use Rattle.std.proofs.Common.{◌∷◌, [], ◌∙◌, arith, refl, rules}
-use Rattle.std.proofs.lemmas.List.{append-nil}
+use Rattle.std.proofs.Common.{◌∷◌, [], ◌∙◌, arith, refl}
 use Rattle.px_shell.proofs.Progress.{one_more_line, plays_line}
-use Rattle.px_shell.proofs.Stops.{ends_last, reads_last, reads_line, stops_acting, stops_at_bad, stops_in_line}
+use Rattle.px_shell.proofs.Stops.{ends_last, reads_line, stops_acting, stops_at_bad, stops_in_line}
 use Rattle.px_shell.proofs.run.run_script.Goals as goal
 
 pub loop-line-preserved : goal.loop-line-preserved
@@ -11,7 +10,7 @@ loop-line-preserved g c =
     let p = rw c.as_slice.ensures at c.in-Done.ensures in
     record {
       progress = rw c.len.ensures (one_more_line _ _ _ _ _ _ (g.S.Source.left c.next_line.new.input) _ _ _ _ _ _ c.in-Line.line i.progress r
-      (plays_line _ _ _ _ _ _ _ _ c.in-Line.line i.progress.played r.part r.short p.0));
+          (plays_line _ _ _ _ _ _ _ _ c.in-Line.line i.progress.played r.part r.short p.0));
       counted = omega (arith, i.counted, r.fits, c.len.ensures);
       reads = c.in-Line.ensures.cause ∙ i.reads;
       writes = p.1 ∙ i.writes;

@@ -1,4 +1,4 @@
-use Rattle.std.proofs.Common.{rules, sym}
+use Rattle.std.proofs.Common.{rules}
 use Rattle.px_base.specs.Hash.{IsHashText}
 use Rattle.px_base.proofs.HexText.{never_refused, reads_hash}
 use Rattle.px_base.proofs.hash.Hash.read.Goals as goal

@@ -1,0 +1,35 @@
+#!/usr/bin/env python3
+"""Writes a script of many votes to standard output: make_script.py VOTES [all]
+
+Each vote is 8 lines: `open` with three voters, three `cast`, three `collect`, one `outcome`. With `all`, each vote is
+12 lines: a withdrawal, a cancel, a stop and one more `outcome` follow.
+"""
+
+import sys
+
+
+def vote(tx, every_line):
+    first, second = f"{2 * tx:040x}", f"{2 * tx + 1:040x}"
+    lines = [
+        "open 2 1 a:1 b:1 c:1",
+        f"cast {tx} a prepared {first}",
+        f"cast {tx} b prepared {first if tx % 3 else second}",
+        f"cast {tx} c prepared {second}",
+        f"collect {tx} a 1",
+        f"collect {tx} b 1",
+        f"collect {tx} c 1",
+        f"outcome {tx} 1",
+    ]
+    if every_line:
+        lines += [f"withdraw {tx} a", f"cancel {tx}", f"stop {tx}", f"outcome {tx} 1"]
+    return lines
+
+
+def main():
+    votes, every_line = int(sys.argv[1]), sys.argv[2:] == ["all"]
+    for tx in range(1, votes + 1):
+        sys.stdout.write("\n".join(vote(tx, every_line)) + "\n")
+
+
+if __name__ == "__main__":
+    main()

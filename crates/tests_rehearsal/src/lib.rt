@@ -1,0 +1,11 @@
+//! Tests of the rehearsal, from the words of the command line to the status.
+#![tactic(auto)]
+
+#[cfg(test)]
+mod faults;
+#[cfg(test)]
+mod limits;
+#[cfg(test)]
+mod rows;
+#[cfg(test)]
+mod runs;

@@ -1,0 +1,9 @@
+//! Tests of votes, and of what every crate stands on.
+#![tactic(auto)]
+
+#[cfg(test)]
+mod names;
+#[cfg(test)]
+mod streams;
+#[cfg(test)]
+mod votes;

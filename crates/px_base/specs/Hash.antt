@@ -43,5 +43,7 @@ same_hash g h = bytes_eq g.0 h.0
 -- it tells whether they are
 pub same_hash-Decides : (g h : Hash) → Decides (same_hash g h) (g ≡ h)
 same_hash-Decides g h =
-    let bytes : Decides (same_hash g h) (g.0 ≡ h.0) = bytes_eq-Decides g.0 h.0 in
-    (λ t. ap (λ (b : List ℕ). let x : Hash = record { 0 = b } in x) (bytes.0 t), λ e. bytes.1 (ap (λ (x : Hash). x.0) e))
+    let bytes : Decides (same_hash g h) (g.0 ≡ h.0) = bytes_eq-Decides g.0 h.0 in (
+      λ t. ap (λ (b : List ℕ). let x : Hash = record { 0 = b } in x) (bytes.0 t),
+      λ e. bytes.1 (ap (λ (x : Hash). x.0) e),
+    )

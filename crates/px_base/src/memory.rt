@@ -45,10 +45,13 @@ impl Source for MemSource {
 
     fn read(&mut self, buf: &mut [u8]) -> ReadEnd
         requires { 0 < length buf.old }
-        ensures bytes { ReadGives (Some (drop self.old.at self.old.bytes.items)) (Some (drop self.new.at self.new.bytes.items)) buf.new result }
+        ensures bytes { ReadGives (Some (drop self.old.at self.old.bytes.items))
+            (Some (drop self.new.at self.new.bytes.items)) buf.new result }
         ensures cause { ReadHasCause self.old.faults self.new.faults result }
-        ensures fails { (result ≡ ReadEnd.Failed) ↔ Contains self.old.failing.items (one_more self.old.calls) }
-        ensures calls { CountsCall self.old.calls self.new.calls self.old.failing.items self.new.failing.items }
+        ensures fails { (result ≡ ReadEnd.Failed)
+            ↔ Contains self.old.failing.items (one_more self.old.calls) }
+        ensures calls { CountsCall self.old.calls self.new.calls
+            self.old.failing.items self.new.failing.items }
     {
         self.calls = self.calls.saturating_add(1);
         if self.failing.contains(&self.calls) {
@@ -110,10 +113,13 @@ impl Sink for MemSink {
 
     fn write(&mut self, bytes: &[u8]) -> WriteEnd
         requires { 0 < length bytes.now }
-        ensures bytes { WriteTakes (Some self.old.bytes.items) (Some self.new.bytes.items) bytes.now result }
+        ensures bytes { WriteTakes (Some self.old.bytes.items)
+            (Some self.new.bytes.items) bytes.now result }
         ensures cause { WriteHasCause self.old.faults self.new.faults result }
-        ensures fails { Contains self.old.failing.items (one_more self.old.calls) → result ≡ WriteEnd.Failed }
-        ensures calls { CountsCall self.old.calls self.new.calls self.old.failing.items self.new.failing.items }
+        ensures fails { Contains self.old.failing.items (one_more self.old.calls)
+            → result ≡ WriteEnd.Failed }
+        ensures calls { CountsCall self.old.calls self.new.calls
+            self.old.failing.items self.new.failing.items }
     {
         self.calls = self.calls.saturating_add(1);
         if self.failing.contains(&self.calls) || self.bytes.extend_from_slice(bytes).is_err() {

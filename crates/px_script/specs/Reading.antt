@@ -9,7 +9,8 @@ use Rattle.px_script.specs.declared.script_line.ScriptLine.{ScriptLine}
 use Rattle.px_script.specs.declared.script_line.ScriptLine.TheVariants.{Nothing, Asks, Bad, Memory}
 
 -- a reading of the first word, and one of the rest that knows what was read
-abbrev pub and_then : {A : Type 0} → (List ℕ → Option A) → List (List ℕ) → (A → List (List ℕ) → Option Event) → Option Event
+abbrev pub and_then : {A : Type 0} → (List ℕ → Option A) → List (List ℕ)
+    → (A → List (List ℕ) → Option Event) → Option Event
 and_then read words rest = option_and_then (λ a. rest a (drop 1 words)) (first_of read words)
 
 -- the event, where no word is left

@@ -16,8 +16,10 @@ voter_word voter = voter.name ++ 58 ∷ decimal voter.weight
 
 -- the words of an event; numbers are decimal, with no sign and no leading zero
 abbrev pub words_of : Event → List (List ℕ)
-words_of (Open threshold voters) = codes "open" ∷ decimal threshold ∷ codes "1" ∷ map voter_word voters
-words_of (Cast tx voter hash) = codes "cast" ∷ decimal tx.0 ∷ voter ∷ codes "prepared" ∷ hash_text hash ∷ []
+words_of (Open threshold voters) =
+    codes "open" ∷ decimal threshold ∷ codes "1" ∷ map voter_word voters
+words_of (Cast tx voter hash) =
+    codes "cast" ∷ decimal tx.0 ∷ voter ∷ codes "prepared" ∷ hash_text hash ∷ []
 words_of (Withdraw tx voter) = codes "withdraw" ∷ decimal tx.0 ∷ voter ∷ []
 words_of (Cancel tx) = codes "cancel" ∷ decimal tx.0 ∷ []
 words_of (Stop tx) = codes "stop" ∷ decimal tx.0 ∷ []

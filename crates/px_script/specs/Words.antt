@@ -27,7 +27,8 @@ words_left is_over bytes = if is_over then [] else line_words bytes
 abbrev pub with_digit : Option ℕ → ℕ → Option ℕ
 with_digit None b = None
 with_digit (Some n) b =
-    if nat_le 48 b && nat_le b 57 && nat_lt (n * 10 + (b - 48)) (2 ^ 64) then Some (n * 10 + (b - 48)) else None
+    if nat_le 48 b && nat_le b 57 && nat_lt (n * 10 + (b - 48)) (2 ^ 64)
+    then Some (n * 10 + (b - 48)) else None
 
 -- a number below 2^64 in decimal digits, at least one, with no zero before others
 abbrev pub number_of : List ℕ → Option ℕ
@@ -46,7 +47,8 @@ small_of word = option_and_then narrow (number_of word)
 -- the name of a storage
 abbrev pub name_of : List ℕ → Option (List ℕ)
 name_of word =
-    if nat_le 1 (length word) && nat_le (length word) 64 && list_all is_name_byte word then Some word else None
+    if nat_le 1 (length word) && nat_le (length word) 64 && list_all is_name_byte word
+    then Some word else None
 
 -- the word that is wanted
 abbrev pub fixed : List ℕ → List ℕ → Option (Unit {0})
@@ -62,7 +64,8 @@ voter_from (Some name) (Some weight) = Some (record { name = name; weight = weig
 abbrev pub voter_of : List ℕ → Option Voter
 voter_of word =
     if nat_lt (position_or_len (λ b. b == 58) word) (length word)
-    then voter_from (name_of (before_first (λ b. b == 58) word)) (small_of (after_first (λ b. b == 58) word))
+    then voter_from (name_of (before_first (λ b. b == 58) word))
+    (small_of (after_first (λ b. b == 58) word))
     else None
 
 -- a voter before others

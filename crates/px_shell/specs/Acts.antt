@@ -12,7 +12,8 @@ pub record Does {S E R : Type 0} (m : Machine S E R) (s s' : S) (line : List ℕ
   pub state : s' ≡ m.next s event
 
 -- the line asks an event, which led from s to s', and this is printed of its reply
-pub record Prints {S E R : Type 0} (m : Machine S E R) (s s' : S) (line text : List ℕ) : Type 0 where
+pub record Prints {S E R : Type 0} (m : Machine S E R) (s s' : S) (line text : List ℕ)
+    : Type 0 where
   pub event : E
   pub asks : m.asks (Some event) line
   pub state : s' ≡ m.next s event

@@ -12,7 +12,8 @@ use Rattle.px_shell.specs.declared.run.RehearseEnd.{RehearseEnd}
 use Rattle.px_shell.specs.declared.run.RehearseEnd.TheVariants as end
 
 -- the whole input is these lines, which were done, and none is left
-pub record PlaysAll {S E R : Type 0} (m : Machine S E R) (limit : ℕ) (s s' : S) (input left old new : Option (List ℕ)) : Type 0 where
+pub record PlaysAll {S E R : Type 0} (m : Machine S E R) (limit : ℕ) (s s' : S)
+    (input left old new : Option (List ℕ)) : Type 0 where
   pub lines : List (List ℕ)
   pub played : Played m s s' old new lines
   pub text : List ℕ
@@ -23,7 +24,8 @@ pub record PlaysAll {S E R : Type 0} (m : Machine S E R) (limit : ℕ) (s s' : S
 
 -- Behind these bytes a line was read, within the limit: with its line feed, or the last one, which has a byte and
 -- lacks it.
-pub record ReadsLine (limit : ℕ) (input left : Option (List ℕ)) (before line : List ℕ) : Type 0 where
+pub record ReadsLine (limit : ℕ) (input left : Option (List ℕ)) (before line : List ℕ)
+    : Type 0 where
   pub part : HasNoLf line
   pub text : List ℕ
   pub is : (text ≡ line ++ 10 ∷ []) ⊎ ((text ≡ line) × (line ≢ []) × IsAtEnd left)
@@ -31,22 +33,26 @@ pub record ReadsLine (limit : ℕ) (input left : Option (List ℕ)) (before line
   pub consumed : Consumes input left (before ++ text)
 
 -- Behind these bytes came one byte more than a line may have. All but that one are within the limit.
-pub record ReadsOverlong (limit : ℕ) (input left : Option (List ℕ)) (before line : List ℕ) : Type 0 where
+pub record ReadsOverlong (limit : ℕ) (input left : Option (List ℕ)) (before line : List ℕ)
+    : Type 0 where
   pub part : HasNoLf line
   pub size : length line ≡ MAX_LINE_BYTES + 1
   pub within : length before + MAX_LINE_BYTES ≤ limit
   pub consumed : Consumes input left (before ++ line)
 
 -- the line with this number is the first bad one: it asks nothing that the machine knows, or is too long
-pub record StopsAtBad {S E R : Type 0} (m : Machine S E R) (limit : ℕ) (s s' : S) (input left old new : Option (List ℕ)) (number : ℕ) : Type 0 where
+pub record StopsAtBad {S E R : Type 0} (m : Machine S E R) (limit : ℕ) (s s' : S)
+    (input left old new : Option (List ℕ)) (number : ℕ) : Type 0 where
   pub lines : List (List ℕ)
   pub played : Played m s s' old new lines
   pub counted : number ≡ length lines + 1
   pub line : List ℕ
-  pub bad : (ReadsLine limit input left (ended lines) line × IsBad m line) ⊎ ReadsOverlong limit input left (ended lines) line
+  pub bad : (ReadsLine limit input left (ended lines) line × IsBad m line)
+      ⊎ ReadsOverlong limit input left (ended lines) line
 
 -- The byte behind the limit came. It ends a line that is not too long, or stands in one that is not too long with it.
-pub record StopsTooLong {S E R : Type 0} (m : Machine S E R) (limit : ℕ) (s s' : S) (input left old new : Option (List ℕ)) : Type 0 where
+pub record StopsTooLong {S E R : Type 0} (m : Machine S E R) (limit : ℕ) (s s' : S)
+    (input left old new : Option (List ℕ)) : Type 0 where
   pub lines : List (List ℕ)
   pub played : Played m s s' old new lines
   pub cut : List ℕ
@@ -57,7 +63,8 @@ pub record StopsTooLong {S E R : Type 0} (m : Machine S E R) (limit : ℕ) (s s'
   pub consumed : Consumes input left (ended lines ++ (cut ++ over ∷ []))
 
 -- the lines that were read whole were done, and a part of one more was read
-pub record StopsUnread {S E R : Type 0} (m : Machine S E R) (s s' : S) (input left old new : Option (List ℕ)) : Type 0 where
+pub record StopsUnread {S E R : Type 0} (m : Machine S E R) (s s' : S)
+    (input left old new : Option (List ℕ)) : Type 0 where
   pub lines : List (List ℕ)
   pub played : Played m s s' old new lines
   pub rest : List ℕ
@@ -66,7 +73,8 @@ pub record StopsUnread {S E R : Type 0} (m : Machine S E R) (s s' : S) (input le
 
 -- Of the very line that was read last, a part of what it prints went out; all that the lines before it print had gone
 -- out.
-pub record StopsInLine {S E R : Type 0} (m : Machine S E R) (limit : ℕ) (s s' : S) (input left old new : Option (List ℕ)) : Type 0 where
+pub record StopsInLine {S E R : Type 0} (m : Machine S E R) (limit : ℕ) (s s' : S)
+    (input left old new : Option (List ℕ)) : Type 0 where
   pub lines : List (List ℕ)
   pub state : S
   pub out : Option (List ℕ)
@@ -79,7 +87,8 @@ pub record StopsInLine {S E R : Type 0} (m : Machine S E R) (limit : ℕ) (s s' 
   pub printed : TakesPart out new (m.text (m.reply state event))
 
 -- Memory wanted in or before a line, of which nothing went out: the machine is as before its event or as after it.
-pub record StopsForMemory {S E R : Type 0} (m : Machine S E R) (s s' : S) (input left old new : Option (List ℕ)) : Type 0 where
+pub record StopsForMemory {S E R : Type 0} (m : Machine S E R) (s s' : S)
+    (input left old new : Option (List ℕ)) : Type 0 where
   pub lines : List (List ℕ)
   pub state : S
   pub played : Played m s state old new lines
@@ -90,9 +99,11 @@ pub record StopsForMemory {S E R : Type 0} (m : Machine S E R) (s s' : S) (input
 
 -- what a run of a script of at most so many bytes came to, by the machine's states, what the source had and has left,
 -- and what the sink had and has taken
-abbrev pub Ends : {S E R : Type 0} → Machine S E R → ℕ → S → S → Option (List ℕ) → Option (List ℕ) → Option (List ℕ) → Option (List ℕ) → RehearseEnd → Type 0
+abbrev pub Ends : {S E R : Type 0} → Machine S E R → ℕ → S → S → Option (List ℕ) → Option (List ℕ)
+    → Option (List ℕ) → Option (List ℕ) → RehearseEnd → Type 0
 Ends m limit s s' input left old new end.Done = PlaysAll m limit s s' input left old new
-Ends m limit s s' input left old new (end.BadLine number) = StopsAtBad m limit s s' input left old new number
+Ends m limit s s' input left old new (end.BadLine number) =
+    StopsAtBad m limit s s' input left old new number
 Ends m limit s s' input left old new end.TooLong = StopsTooLong m limit s s' input left old new
 Ends m limit s s' input left old new end.ReadFault = StopsUnread m s s' input left old new
 Ends m limit s s' input left old new end.WriteFault = StopsInLine m limit s s' input left old new
@@ -100,6 +111,8 @@ Ends m limit s s' input left old new end.Memory = StopsForMemory m s s' input le
 
 -- a fault comes only where that count rose, and the counts stay otherwise
 abbrev pub EndHasCause : ℕ → ℕ → ℕ → ℕ → RehearseEnd → Type 0
-EndHasCause reads reads' writes writes' end.ReadFault = (reads ≤ reads') × Rose reads reads' × (writes' ≡ writes)
-EndHasCause reads reads' writes writes' end.WriteFault = (reads' ≡ reads) × (writes ≤ writes') × Rose writes writes'
+EndHasCause reads reads' writes writes' end.ReadFault =
+    (reads ≤ reads') × Rose reads reads' × (writes' ≡ writes)
+EndHasCause reads reads' writes writes' end.WriteFault =
+    (reads' ≡ reads) × (writes ≤ writes') × Rose writes writes'
 EndHasCause reads reads' writes writes' end = (reads' ≡ reads) × (writes' ≡ writes)

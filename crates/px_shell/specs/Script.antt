@@ -27,7 +27,8 @@ abbrev pub AreLinesOf : List (List ℕ) → List ℕ → Type 0
 AreLinesOf lines text = AreLines lines × ((text ≡ ended lines) ⊎ LacksFeed lines text)
 
 -- the line asks this, and is not above the greatest length
-pub record IsLawful {S E R : Type 0} (m : Machine S E R) (asked : Option E) (line : List ℕ) : Type 0 where
+pub record IsLawful {S E R : Type 0} (m : Machine S E R) (asked : Option E) (line : List ℕ)
+    : Type 0 where
   pub short : length line ≤ MAX_LINE_BYTES
   pub asks : m.asks asked line
 
@@ -43,7 +44,8 @@ abbrev pub IsBad : {S E R : Type 0} → Machine S E R → List ℕ → Type 0
 IsBad {E = E} m line = (asked : Option E) → m.asks asked line → ⊥
 
 -- These lines were done: each is lawful, the machine is where their events lead, and all that they print went out.
-pub record Played {S E R : Type 0} (m : Machine S E R) (s s' : S) (old new : Option (List ℕ)) (lines : List (List ℕ)) : Type 0 where
+pub record Played {S E R : Type 0} (m : Machine S E R) (s s' : S) (old new : Option (List ℕ))
+    (lines : List (List ℕ)) : Type 0 where
   pub parts : AreLines lines
   pub asked : List (Option E)
   pub lawful : AllAsk m asked lines

@@ -45,16 +45,20 @@ message_of (Some end.Memory) = codes "praefect: out of memory\n"
 
 -- the whole text went out and no fault came, or a part from its front and the count of faults rose
 abbrev pub Says : Option (List ℕ) → Option (List ℕ) → ℕ → ℕ → List ℕ → Type 0
-Says old new before now text = (Appends old new text × (now ≡ before)) ⊎ (TakesPart old new text × (before ≤ now) × Rose before now)
+Says old new before now text =
+    (Appends old new text × (now ≡ before)) ⊎ (TakesPart old new text × (before ≤ now) × Rose before now)
 
 -- the words are no command, and nothing goes out; or the rehearsal came to this end
-abbrev pub Ended : List (List ℕ) → Option (List ℕ) → Option (List ℕ) → Option (List ℕ) → Option (List ℕ) → Option RehearseEnd → Type 0
+abbrev pub Ended : List (List ℕ) → Option (List ℕ) → Option (List ℕ) → Option (List ℕ)
+    → Option (List ℕ) → Option RehearseEnd → Type 0
 Ended words input left old new None = (words ≢ command) × Keeps old new
-Ended words input left old new (Some end) = (words ≡ command) × Rehearses MAX_INPUT_BYTES input left old new end
+Ended words input left old new (Some end) =
+    (words ≡ command) × Rehearses MAX_INPUT_BYTES input left old new end
 
 -- What the run came to, with the status that it answered and what it said: by the words, what the input had and has
 -- left, what the output had and has taken, and what the error stream had and has taken, with its count of faults.
-pub record Runs (words : List (List ℕ)) (input left old new said said' : Option (List ℕ)) (before now : ℕ) (answer : Status) : Type 0 where
+pub record Runs (words : List (List ℕ)) (input left old new said said' : Option (List ℕ))
+    (before now : ℕ) (answer : Status) : Type 0 where
   pub end : Option RehearseEnd
   pub ended : Ended words input left old new end
   pub answers : answer ≡ status_of end
@@ -62,6 +66,8 @@ pub record Runs (words : List (List ℕ)) (input left old new said said' : Optio
 
 -- a fault is answered only where that count rose, and the counts stay otherwise
 abbrev pub RunHasCause : ℕ → ℕ → ℕ → ℕ → Status → Type 0
-RunHasCause reads reads' writes writes' status.ReadFault = (reads ≤ reads') × Rose reads reads' × (writes' ≡ writes)
-RunHasCause reads reads' writes writes' status.WriteFault = (reads' ≡ reads) × (writes ≤ writes') × Rose writes writes'
+RunHasCause reads reads' writes writes' status.ReadFault =
+    (reads ≤ reads') × Rose reads reads' × (writes' ≡ writes)
+RunHasCause reads reads' writes writes' status.WriteFault =
+    (reads' ≡ reads) × (writes ≤ writes') × Rose writes writes'
 RunHasCause reads reads' writes writes' answer = (reads' ≡ reads) × (writes' ≡ writes)

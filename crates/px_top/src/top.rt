@@ -23,8 +23,9 @@ pub fn run<S: Source, O: Sink, E: Sink>(
     err: &mut E,
 ) -> Status
     // The run of the script, what is said of its end, and the status that goes with it.
-    ensures run { Runs words.now (S.left input.old) (S.left input.new) (O.taken out.old) (O.taken out.new)
-        (E.taken err.old) (E.taken err.new) (E.write_faults err.old) (E.write_faults err.new) result }
+    ensures run { Runs words.now (S.left input.old) (S.left input.new)
+        (O.taken out.old) (O.taken out.new) (E.taken err.old) (E.taken err.new)
+        (E.write_faults err.old) (E.write_faults err.new) result }
 
     // Nothing is read or written where the words are no command.
     ensures unread { result ≡ Status.Usage → input.new ≡ input.old }

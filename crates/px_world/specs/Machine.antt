@@ -32,7 +32,10 @@ open_refusal state None = if nat_lt state.last (2 ^ 64 - 1) then None else Some 
 
 -- one transaction more, with the next number
 abbrev pub with_opened : Option Refusal → State → Voting → State
-with_opened None state voting = record { last = state.last + 1; transactions = state.transactions ++ voting ∷ [] }
+with_opened None state voting = record {
+  last = state.last + 1;
+  transactions = state.transactions ++ voting ∷ [];
+}
 with_opened (Some refusal) state voting = state
 
 -- what the transaction with that number answers, where there is one
@@ -55,21 +58,29 @@ opens (Outcome tx sub) = false
 
 -- what an event answers
 abbrev pub reply_of : State → Event → Reply
-reply_of state (Open threshold voters) = unless_refused (open_refusal state (panel_refusal voters threshold)) (Opened (record { 0 = state.last + 1 }))
+reply_of state (Open threshold voters) =
+    unless_refused (open_refusal state (panel_refusal voters threshold))
+    (Opened (record { 0 = state.last + 1 }))
 reply_of state (Cast tx voter hash) = answer_at (transaction_at state tx) tx (cast_reply voter hash)
 reply_of state (Withdraw tx voter) = answer_at (transaction_at state tx) tx (withdraw_reply voter)
 reply_of state (Cancel tx) = answer_at (transaction_at state tx) tx done
 reply_of state (Stop tx) = answer_at (transaction_at state tx) tx stop_reply
-reply_of state (Collect tx voter sub) = answer_at (transaction_at state tx) tx (collect_reply voter sub)
+reply_of state (Collect tx voter sub) =
+    answer_at (transaction_at state tx) tx (collect_reply voter sub)
 reply_of state (Outcome tx sub) = answer_at (transaction_at state tx) tx (outcome_reply sub)
 
 -- where an event leads
 abbrev pub next_state : State → Event → State
-next_state state (Open threshold voters) = with_opened (open_refusal state (panel_refusal voters threshold)) state (opened voters threshold)
-next_state state (Cast tx voter hash) = with_transaction state tx (option_map (after_cast voter hash) (transaction_at state tx))
-next_state state (Withdraw tx voter) = with_transaction state tx (option_map (after_withdraw voter) (transaction_at state tx))
-next_state state (Cancel tx) = with_transaction state tx (option_map after_cancel (transaction_at state tx))
-next_state state (Stop tx) = with_transaction state tx (option_map after_stop (transaction_at state tx))
+next_state state (Open threshold voters) =
+    with_opened (open_refusal state (panel_refusal voters threshold)) state (opened voters threshold)
+next_state state (Cast tx voter hash) =
+    with_transaction state tx (option_map (after_cast voter hash) (transaction_at state tx))
+next_state state (Withdraw tx voter) =
+    with_transaction state tx (option_map (after_withdraw voter) (transaction_at state tx))
+next_state state (Cancel tx) =
+    with_transaction state tx (option_map after_cancel (transaction_at state tx))
+next_state state (Stop tx) =
+    with_transaction state tx (option_map after_stop (transaction_at state tx))
 next_state state (Collect tx voter sub) = state
 next_state state (Outcome tx sub) = state
 

@@ -22,7 +22,8 @@ place state tx = tx.0 - earlier state - 1
 
 -- the transaction with a number, where there is one
 abbrev pub transaction_at : State → TxId → Option Voting
-transaction_at state tx = if nat_lt (earlier state) tx.0 then slice_get state.transactions (place state tx) else None
+transaction_at state tx =
+    if nat_lt (earlier state) tx.0 then slice_get state.transactions (place state tx) else None
 
 -- the transaction with that number stands at this place
 pub record Stands (state : State) (tx : TxId) (at : ℕ) : Type 0 where
@@ -33,4 +34,7 @@ pub record Stands (state : State) (tx : TxId) (at : ℕ) : Type 0 where
 -- the state with the transaction of that number changed, where there is one
 abbrev pub with_transaction : State → TxId → Option Voting → State
 with_transaction state tx None = state
-with_transaction state tx (Some voting) = record { last = state.last; transactions = slice_set state.transactions (place state tx) voting }
+with_transaction state tx (Some voting) = record {
+  last = state.last;
+  transactions = slice_set state.transactions (place state tx) voting;
+}

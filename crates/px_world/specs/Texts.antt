@@ -13,7 +13,8 @@ use Rattle.px_world.specs.declared.reply.Reply.TheVariants.{Opened, Counted, Out
 -- what a voter's vote came to; of a commit also the weight that stands for it, and the threshold
 abbrev pub result_text : VoterResult → List ℕ
 result_text result.Open = codes "open"
-result_text (result.Committed verdict) = codes "committed " ++ hash_text verdict.hash ++ codes " " ++ decimal verdict.reached ++ codes "/" ++ decimal verdict.threshold
+result_text (result.Committed verdict) = codes "committed " ++ hash_text verdict.hash ++ codes " "
+    ++ decimal verdict.reached ++ codes "/" ++ decimal verdict.threshold
 result_text result.Failed = codes "failed"
 result_text result.Canceled = codes "canceled"
 result_text result.Stopped = codes "stopped"
@@ -30,7 +31,8 @@ abbrev pub refusal_text : Refusal → List ℕ
 refusal_text refusal.NoVoters = codes "NoVoters"
 refusal_text (refusal.TooManyVoters n) = codes "TooManyVoters " ++ decimal n
 refusal_text (refusal.DuplicateVoter name) = codes "DuplicateVoter " ++ name
-refusal_text (refusal.BadThreshold total threshold) = codes "BadThreshold " ++ decimal total ++ codes " " ++ decimal threshold
+refusal_text (refusal.BadThreshold total threshold) = codes "BadThreshold " ++ decimal total
+    ++ codes " " ++ decimal threshold
 refusal_text refusal.TransactionsSpent = codes "TransactionsSpent"
 refusal_text (refusal.UnknownTx tx) = codes "UnknownTx " ++ decimal tx.0
 refusal_text (refusal.NotAVoter name) = codes "NotAVoter " ++ name

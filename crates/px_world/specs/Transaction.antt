@@ -51,6 +51,7 @@ abbrev pub counted : List ℕ → Option VoterResult → Reply
 counted name None = Refused (NotAVoter name)
 counted name (Some result) = Counted result
 
+-- what refuses a cast, where the voter goes by a name
 abbrev pub of_cast : List ℕ → CastRefusal → Refusal
 of_cast name cast.NotAVoter = NotAVoter name
 of_cast name cast.Canceled = Canceled
@@ -62,6 +63,7 @@ abbrev pub cast_answer_of : List ℕ → Result VoterResult CastRefusal → Repl
 cast_answer_of name (Ok counted) = Counted counted
 cast_answer_of name (Err refusal) = Refused (of_cast name refusal)
 
+-- the same of a withdrawal
 abbrev pub of_cancel : List ℕ → CancelRefusal → Refusal
 of_cancel name cancel.NotAVoter = NotAVoter name
 of_cancel name cancel.Canceled = Canceled
@@ -71,17 +73,22 @@ of_cancel name cancel.Decided = Decided
 -- a cast by the voter of a number: it has finished where its result is committed
 abbrev pub cast_refusal_for : List ℕ → ℕ → Voting → Option Refusal
 cast_refusal_for name voter voting =
-    if committed_in voter voting.votes then Some Finished else option_map (of_cast name) (cast_refusal voting.votes voter)
+    if committed_in voter voting.votes then Some Finished
+    else option_map (of_cast name) (cast_refusal voting.votes voter)
 
+-- what a cast is answered, by the number that its voter has
 abbrev pub cast_reply_by : List ℕ → Hash → Voting → Option ℕ → Reply
 cast_reply_by name hash voting None = Refused (NotAVoter name)
 cast_reply_by name hash voting (Some voter) =
-    unless_refused (cast_refusal_for name voter voting) (counted name (result_at (after voting.votes (act.Cast voter hash)) voter))
+    unless_refused (cast_refusal_for name voter voting)
+    (counted name (result_at (after voting.votes (act.Cast voter hash)) voter))
 
+-- where it leads
 abbrev pub after_cast_by : List ℕ → Hash → Voting → Option ℕ → Voting
 after_cast_by name hash voting None = voting
 after_cast_by name hash voting (Some voter) =
-    with_votes_unless (cast_refusal_for name voter voting) voting (after voting.votes (act.Cast voter hash))
+    with_votes_unless (cast_refusal_for name voter voting) voting
+    (after voting.votes (act.Cast voter hash))
 
 -- a cast: the result of its voter, with the vote counted
 abbrev pub cast_reply : List ℕ → Hash → Voting → Reply
@@ -93,16 +100,20 @@ after_cast name hash voting = after_cast_by name hash voting (number_of name vot
 -- a withdrawal by the voter of a number
 abbrev pub withdraw_refusal_for : List ℕ → ℕ → Voting → Option Refusal
 withdraw_refusal_for name voter voting =
-    if committed_in voter voting.votes then Some Finished else option_map (of_cancel name) (cancel_refusal voting.votes voter)
+    if committed_in voter voting.votes then Some Finished
+    else option_map (of_cancel name) (cancel_refusal voting.votes voter)
 
+-- what it is answered, and where it leads
 abbrev pub withdraw_reply_by : List ℕ → Voting → Option ℕ → Reply
 withdraw_reply_by name voting None = Refused (NotAVoter name)
-withdraw_reply_by name voting (Some voter) = unless_refused (withdraw_refusal_for name voter voting) Done
+withdraw_reply_by name voting (Some voter) =
+    unless_refused (withdraw_refusal_for name voter voting) Done
 
 abbrev pub after_withdraw_by : List ℕ → Voting → Option ℕ → Voting
 after_withdraw_by name voting None = voting
 after_withdraw_by name voting (Some voter) =
-    with_votes_unless (withdraw_refusal_for name voter voting) voting (after voting.votes (act.Cancel voter))
+    with_votes_unless (withdraw_refusal_for name voter voting) voting
+    (after voting.votes (act.Cancel voter))
 
 -- a withdrawal: its voter is canceled
 abbrev pub withdraw_reply : List ℕ → Voting → Reply
@@ -124,12 +135,14 @@ abbrev pub stop_reply : Voting → Reply
 stop_reply voting = unless_refused (stop_refused (stop_refusal voting.votes)) Done
 
 abbrev pub after_stop : Voting → Voting
-after_stop voting = with_votes_unless (stop_refused (stop_refusal voting.votes)) voting (after voting.votes act.Stop)
+after_stop voting =
+    with_votes_unless (stop_refused (stop_refusal voting.votes)) voting (after voting.votes act.Stop)
 
--- the one subtransaction has the number 1
+-- the result of the voter of a number; the one subtransaction has the number 1
 abbrev pub collect_reply_by : List ℕ → ℕ → Voting → Option ℕ → Reply
 collect_reply_by name sub voting None = Refused (NotAVoter name)
-collect_reply_by name sub voting (Some voter) = if sub == 1 then counted name (result_at voting.votes voter) else Refused (NoSub sub)
+collect_reply_by name sub voting (Some voter) =
+    if sub == 1 then counted name (result_at voting.votes voter) else Refused (NoSub sub)
 
 -- the result of a voter in a subtransaction
 abbrev pub collect_reply : List ℕ → ℕ → Voting → Reply

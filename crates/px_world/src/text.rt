@@ -48,7 +48,8 @@ fn add_number(text: &mut Bytes, words: &[u8], number: u64) -> Result<(), AllocEr
 }
 
 fn committed(alloc: Global, verdict: &Verdict) -> Text
-    ensures { IfOk result (λ text. text ≡ codes "committed " ++ hash_text verdict.now.hash ++ codes " "
+    ensures { IfOk result (λ text. text ≡ codes "committed "
+        ++ hash_text verdict.now.hash ++ codes " "
         ++ decimal verdict.now.reached ++ codes "/" ++ decimal verdict.now.threshold) }
 {
     let mut text = with_hash(alloc, b"committed ", &verdict.hash())?;
@@ -81,7 +82,8 @@ fn outcome_line(alloc: Global, outcome: &Outcome) -> Text
 }
 
 fn bad_threshold(alloc: Global, total: u64, threshold: u64) -> Text
-    ensures { IfOk result (λ text. text ≡ codes "refused " ++ (codes "BadThreshold " ++ decimal total ++ codes " " ++ decimal threshold)) }
+    ensures { IfOk result (λ text. text ≡ codes "refused "
+        ++ (codes "BadThreshold " ++ decimal total ++ codes " " ++ decimal threshold)) }
 {
     let mut text = with_number(alloc, b"refused BadThreshold ", total)?;
     add_number(&mut text, b" ", threshold)?;

@@ -73,8 +73,10 @@ impl World {
         threshold: u64,
         voters: &[Voter],
     ) -> Result<Reply, AllocError>
-        ensures reply { IfOk result (λ reply. reply ≡ reply_of self.old (Event.Open threshold voters.now)) }
-        ensures state { IfOk result (λ reply. self.new ≡ next_state self.old (Event.Open threshold voters.now)) }
+        ensures reply { IfOk result
+            (λ reply. reply ≡ reply_of self.old (Event.Open threshold voters.now)) }
+        ensures state { IfOk result
+            (λ reply. self.new ≡ next_state self.old (Event.Open threshold voters.now)) }
         ensures err { OnErr result (self.new ≡ self.old) }
     {
         let transaction = match Transaction::new(alloc, voters, threshold) {
@@ -93,7 +95,8 @@ impl World {
 
     // Where the transaction of a number stands.
     fn place_of(&self, tx: TxId) -> Option<usize>
-        ensures { MatchOption result (transaction_at self.now tx ≡ None) (λ at. Stands self.now tx at) }
+        ensures { MatchOption result (transaction_at self.now tx ≡ None)
+            (λ at. Stands self.now tx at) }
     {
         let count = self.transactions.len() as u64;
         let earlier = self.last - count;
@@ -164,7 +167,8 @@ impl World {
 
 // What is answered where there is no such panel.
 fn refused_open(refusal: PanelRefusal) -> Result<Reply, AllocError>
-    ensures reply { IfOk result (λ reply. option_map Reply.Refused (refused_panel refusal) ≡ Some reply) }
+    ensures reply { IfOk result
+        (λ reply. option_map Reply.Refused (refused_panel refusal) ≡ Some reply) }
     ensures memory { OnErr result (refusal ≡ PanelRefusal.Memory) }
 {
     match refusal {

@@ -1,10 +1,12 @@
 //! Faults of the streams, words that are no command, and the last number.
 
 use crate::runs::rehearsed;
-use px_base::{Items, MemSink, MemSource, StorageName, TxId, Voter, Words};
+use px_base::{MemSink, MemSource, StorageName, TxId, Words};
+use px_shell::{Act, StateMachine};
 use px_top::{Status, run, tell_memory};
 use px_world::{Event, Refusal, RehearseEnd, Reply, World, line_of, rehearse};
 use std::test::Fail;
+use voters::{Outcome, VoterResult};
 
 const SCRIPT: &[u8] =
     b"open 2 1 a:1 b:1 c:1\ncast 1 a prepared 1111111111111111111111111111111111111111\ncast 1 b prepared 1111111111111111111111111111111111111111\ncollect 1 a 1\ncast 1 c prepared 2222222222222222222222222222222222222222\n";
@@ -89,34 +91,54 @@ fn other_words_are_usage_and_a_failing_message_changes_nothing(
     Ok(())
 }
 
+/// Whether this is what a line prints.
+fn prints(act: Act, want: &[u8]) -> bool {
+    match act {
+        Act::Prints(text) => text.as_slice() == want,
+        Act::Nothing | Act::Bad | Act::Memory => false,
+    }
+}
+
 #[test]
 fn the_last_number_is_given_once(rt: HostRuntime) -> Result<(), Fail> {
     let alloc = rt.alloc();
-    let mut voters = Items::new(alloc);
-    voters.push(Voter {
-        name: StorageName::read(b"a")?,
-        weight: 1,
-    })?;
-    let event = Event::Open {
-        threshold: 1,
-        voters,
-    };
     let mut world = World::after(alloc, TxId(u64::MAX - 1));
-    assert_eq!(rt; world.step(alloc, &event)?, Reply::Opened(TxId(u64::MAX)));
-    let spent = world.step(alloc, &event)?;
-    assert_eq!(rt; spent, Reply::Refused(Refusal::TransactionsSpent));
-    assert_eq!(rt;
-        line_of(alloc, &spent)?.as_slice(),
-        b"refused TransactionsSpent\n".as_slice()
+    let opening = b"open 1 1 a:1".as_slice();
+    assert!(rt; prints(world.act(alloc, opening), b"tx 18446744073709551615\n"));
+    assert!(rt; prints(world.act(alloc, opening), b"refused TransactionsSpent\n"));
+    assert!(rt;
+        prints(
+            world.act(alloc, b"outcome 18446744073709551615 1"),
+            b"open\n"
+        )
     );
-    let outcome = Event::Outcome {
-        tx: TxId(u64::MAX),
-        sub: 1,
-    };
+    assert!(rt; matches!(world.act(alloc, b"# nothing"), Act::Nothing));
+    assert!(rt; matches!(world.act(alloc, b"nothing"), Act::Bad));
+    Ok(())
+}
+
+#[test]
+fn a_step_answers_and_its_reply_has_a_line(rt: HostRuntime) -> Result<(), Fail> {
+    let alloc = rt.alloc();
+    let mut world = World::new(alloc);
+    assert!(rt; prints(world.act(alloc, b"open 1 1 a:1"), b"tx 1\n"));
+    let voter = StorageName::read(b"a")?;
+    let (tx, sub) = (TxId(1), 1);
+    let collect = Event::Collect { tx, voter, sub };
     assert_eq!(rt;
-        line_of(alloc, &world.step(alloc, &outcome)?)?.as_slice(),
-        b"open\n".as_slice()
+        world.step(alloc, &collect)?,
+        Reply::Counted(VoterResult::Open)
     );
+    let outcome = Event::Outcome { tx, sub };
+    assert_eq!(rt;
+        world.step(alloc, &outcome)?,
+        Reply::OutcomeIs(Outcome::Open)
+    );
+    let stop = Event::Stop { tx: TxId(2) };
+    let unknown = Reply::Refused(Refusal::UnknownTx(TxId(2)));
+    assert_eq!(rt; world.step(alloc, &stop)?, unknown);
+    let line = line_of(alloc, &unknown)?;
+    assert_eq!(rt; line.as_slice(), b"refused UnknownTx 2\n".as_slice());
     let mut input = MemSource::new(Vec::new(alloc), Vec::new(alloc));
     let mut out = MemSink::new(alloc, Vec::new(alloc));
     assert_eq!(rt; rehearse(alloc, &mut input, &mut out), RehearseEnd::Done);

@@ -39,7 +39,7 @@ AllAsk m [] (line ∷ lines) = ⊥
 AllAsk m (asked ∷ more) [] = ⊥
 AllAsk m (asked ∷ more) (line ∷ lines) = IsLawful m asked line × AllAsk m more lines
 
--- the line asks neither an event nor nothing
+-- the line is bad: there is no event that it asks, and it is not one that asks nothing
 abbrev pub IsBad : {S E R : Type 0} → Machine S E R → List ℕ → Type 0
 IsBad {E = E} m line = (asked : Option E) → m.asks asked line → ⊥
 

@@ -1,2 +1,3 @@
+pub mod HashOrder
 pub mod HexText
 pub mod Streams

@@ -3,6 +3,9 @@ use Rattle.std.specs.Prelude.{◌≡◌, ◌&&◌, ◌||◌, nat_le, Bool, List,
 use Rattle.std.specs.Bool.{Decides}
 use Rattle.std.specs.List.{AllPass, list_all}
 use Rattle.std.specs.Str.{bytes_eq}
+use Rattle.std.specs.Ordering.{nat_cmp}
+use Rattle.std.specs.Cmp.Lexicographic.{slice_cmp}
+use Rattle.std.specs.declared.cmp.Ordering.{Ordering}
 use Rattle.std.proofs.Common.{ap}
 use Rattle.std.proofs.lemmas.Slice.Eq.{bytes_eq-Decides}
 use Rattle.hex.specs.Hex.{encode_lower, decode_sized, IsBytes}
@@ -35,6 +38,10 @@ hash_from (Err e) = None
 -- the hash that these digits stand for, where each is a digit and there are 40
 abbrev pub hash_of : List ℕ → Option Hash
 hash_of text = if list_all is_hex_digit text then hash_from (decode_sized text 20) else None
+
+-- the order of hashes: the first byte that differs decides
+abbrev pub hash_cmp : Hash → Hash → Ordering
+hash_cmp g h = slice_cmp nat_cmp g.0 h.0
 
 -- the two are one hash
 abbrev pub same_hash : Hash → Hash → Bool

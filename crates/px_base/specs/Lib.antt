@@ -1,7 +1,11 @@
 pub mod Causes
+pub mod FirstPlace
 pub mod Hash
 pub mod Line
 pub mod Memory
+pub mod Object
+pub mod RefName
+pub mod RepoPath
 pub mod Sink
 pub mod Source
 pub mod StorageName

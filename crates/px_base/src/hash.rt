@@ -4,8 +4,12 @@ ghost use Rattle.std.specs.Prelude.{◌≡◌, ℕ, List, IfSome, IfNone};
 ghost use Rattle.px_base.specs.Hash.{hash_of, hash_text, is_hex_digit, IsHash, IsHashText};
 
 /// A SHA-1 digest (FIPS 180-4). Votes, and the names of Git's objects, are such digests.
-#[derive(Clone, Copy, Debug, PartialEq, Eq)]
+#[derive(Clone, Copy, Debug, PartialEq, Eq, PartialOrd, Ord)]
 pub struct Hash(pub [u8; 20]);
+
+/// The name of a Git object, which is the SHA-1 of its kind, its length and its content
+/// (git-hash-object(1)).
+pub type ObjectId = Hash;
 
 fn is_digit(byte: u8) -> bool
     ensures { result ≡ is_hex_digit byte }

@@ -2,6 +2,7 @@
 
 ghost use Rattle.std.specs.Prelude.{◌≡◌, ◌↔◌, [], ◌∷◌, ◌++◌, length, IfOk, IsTrue, OnOk, OnErr};
 
+use crate::Hash;
 use std::alloc::{AllocError, Global};
 use std::marker::Model;
 
@@ -13,6 +14,9 @@ pub struct Items<T> {
 
 /// A list of bytes.
 pub type Bytes = Items<u8>;
+
+/// A list of hashes, as the names of objects.
+pub type Ids = Items<Hash>;
 
 impl<T> Model for Items<T> {
     ghost use Rattle.std.specs.Prelude.{List};

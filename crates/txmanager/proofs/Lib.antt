@@ -1,0 +1,11 @@
+pub mod ActLemmas
+pub mod CallLemmas
+pub mod CarryIntoLemmas
+pub mod CarryLemmas
+pub mod ChainLemmas
+pub mod CurrentLemmas
+pub mod LawLemmas
+pub mod OnlyLemmas
+pub mod OutLemmas
+pub mod RegistryLemmas
+pub mod StopLemmas

@@ -1,0 +1,5 @@
+pub mod Chain
+pub mod Readings
+pub mod Registry
+pub mod Rounds
+pub mod Voting

@@ -1,12 +1,15 @@
 -- The words of a line: cut at its spaces, and joined by spaces.
-use Rattle.std.proofs.Common.{◌≡◌, ◌++◌, ◌==◌, ℕ, List, [], ◌∷◌, Bool, true, false, not, cond, Option, Some, None, arith, refl, ap, sym, ◌∙◌}
+use Rattle.std.proofs.Common.{◌≡◌, ◌++◌, ◌==◌, ℕ, List, [], ◌∷◌, Bool, true, false, not, cond, Option, Some, None, arith, codes, refl, ap, sym, ◌∙◌}
 use Rattle.std.specs.List.{after_first, AllByRecursion, join_with_byte, list_all, onto_first, slice_split}
 use Rattle.std.specs.Str.{bytes_eq}
 use Rattle.std.proofs.lemmas.Bool.{and_parts, eq-eqb, eqb-true, false_from_ne_true}
 use Rattle.std.proofs.lemmas.List.Splits.{slice_split_first, slice_split_none}
 use Rattle.std.proofs.lemmas.List.Sums.{fails_before_first}
 use Rattle.std.proofs.lemmas.Slice.Eq.{bytes_eq-Decides}
-use Rattle.px_script.specs.Words.{end_of, fixed, line_words, words_left, HasNo, IsCutAt}
+use Rattle.px_base.specs.declared.phase.Phase.{Phase}
+use Rattle.px_base.specs.declared.phase.Phase.TheVariants.{Prepared, Committed}
+use Rattle.px_script.specs.Spelling.{phase_word}
+use Rattle.px_script.specs.Words.{end_of, line_words, phase_of, words_left, HasNo, IsCutAt}
 
 -- what two present values hold is one, where the two are
 pub some_same : {A : Type 0} {x y : A} → Some x ≡ Some y → x ≡ y
@@ -94,10 +97,19 @@ line_words-joined word (next ∷ words) whole =
     slice_split-word 32 word (join_with_byte 32 (next ∷ words)) whole.0
     ∙ ap (λ (parts : List (List ℕ)). word ∷ parts) (line_words-joined next words whole.1)
 
--- a word that is taken as a fixed text is that text
-pub fixed-some : (text word : List ℕ) (u : Unit {0}) → fixed text word ≡ Some u → text ≡ word
-fixed-some text word u is = fixed-by text word (bytes_eq word text) u refl is
+-- a phase is read back from its word
+pub phase_of-word : (phase : Phase) → phase_of (phase_word phase) ≡ Some phase
+phase_of-word Prepared = refl
+phase_of-word Committed = refl
+
+-- a word that is taken as a phase is the word of it
+pub phase_of-some : (word : List ℕ) (phase : Phase) → phase_of word ≡ Some phase → phase_word phase ≡ word
+phase_of-some word phase is = by (bytes_eq word (codes "prepared")) (bytes_eq word (codes "committed")) phase refl refl is
   where
-    fixed-by : (text word : List ℕ) (t : Bool) (u : Unit {0}) → bytes_eq word text ≡ t → (let o : Option (Unit {0}) = cond t (Some tt) None in o) ≡ Some u → text ≡ word
-    fixed-by text word true u same is = sym ((bytes_eq-Decides word text).0 same)
-    fixed-by text word false u same is = cc
+    by : (p c : Bool) (phase : Phase) → bytes_eq word (codes "prepared") ≡ p → bytes_eq word (codes "committed") ≡ c
+        → (let o : Option Phase = cond p (Some Prepared) (cond c (Some Committed) None) in o) ≡ Some phase → phase_word phase ≡ word
+    by true c Prepared same other is = sym ((bytes_eq-Decides word (codes "prepared")).0 same)
+    by true c Committed same other is = absurd (cc)
+    by false true Prepared same other is = absurd (cc)
+    by false true Committed same other is = sym ((bytes_eq-Decides word (codes "committed")).0 other)
+    by false false phase same other is = absurd (cc)

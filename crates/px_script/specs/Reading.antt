@@ -2,9 +2,9 @@
 use Rattle.std.specs.Prelude.{◌≡◌, ℕ, List, [], ◌∷◌, drop, if◌then◌else◌, Option, Some, None, option_and_then, codes}
 use Rattle.std.specs.Str.{bytes_eq}
 use Rattle.px_base.specs.Hash.{hash_of}
-use Rattle.px_script.specs.Words.{end_of, first_of, fixed, name_of, number_of, small_of, voters_of}
+use Rattle.px_script.specs.Words.{end_of, first_of, name_of, number_of, phase_of, small_of, voters_of}
 use Rattle.px_script.specs.declared.event.Event.{Event}
-use Rattle.px_script.specs.declared.event.Event.TheVariants.{Open, Cast, Withdraw, Cancel, Stop, Collect, Outcome}
+use Rattle.px_script.specs.declared.event.Event.TheVariants.{Open, Cast, Withdraw, Cancel, Stop, Close, Collect, Outcome}
 use Rattle.px_script.specs.declared.script_line.ScriptLine.{ScriptLine}
 use Rattle.px_script.specs.declared.script_line.ScriptLine.TheVariants.{Nothing, Asks, Bad, Memory}
 
@@ -17,21 +17,21 @@ and_then read words rest = option_and_then (λ a. rest a (drop 1 words)) (first_
 abbrev pub at_end : Event → List (List ℕ) → Option Event
 at_end event words = option_and_then (λ u. Some event) (end_of words)
 
--- a threshold, one round, and the voters
+-- a threshold, a number of rounds, and the voters
 abbrev pub open_of : List (List ℕ) → Option Event
 open_of words =
     and_then number_of words (λ threshold words.
-    and_then (fixed (codes "1")) words (λ u words.
-    option_and_then (λ voters. Some (Open threshold voters)) (voters_of words)))
+    and_then small_of words (λ rounds words.
+    option_and_then (λ voters. Some (Open threshold rounds voters)) (voters_of words)))
 
--- a transaction, a voter, the phase and a hash
+-- a transaction, a voter, a phase and a hash
 abbrev pub cast_of : List (List ℕ) → Option Event
 cast_of words =
     and_then number_of words (λ tx words.
     and_then name_of words (λ voter words.
-    and_then (fixed (codes "prepared")) words (λ u words.
+    and_then phase_of words (λ phase words.
     and_then hash_of words (λ hash words.
-    at_end (Cast (record { 0 = tx }) voter hash) words))))
+    at_end (Cast (record { 0 = tx }) voter phase hash) words))))
 
 -- a transaction and a voter
 abbrev pub withdraw_of : List (List ℕ) → Option Event
@@ -47,6 +47,10 @@ cancel_of words = and_then number_of words (λ tx words. at_end (Cancel (record 
 -- a transaction
 abbrev pub stop_of : List (List ℕ) → Option Event
 stop_of words = and_then number_of words (λ tx words. at_end (Stop (record { 0 = tx })) words)
+
+-- a transaction
+abbrev pub close_of : List (List ℕ) → Option Event
+close_of words = and_then number_of words (λ tx words. at_end (Close (record { 0 = tx })) words)
 
 -- a transaction, a voter and the number of a subtransaction
 abbrev pub collect_of : List (List ℕ) → Option Event
@@ -71,6 +75,7 @@ event_from first words =
     else if bytes_eq first (codes "withdraw") then withdraw_of words
     else if bytes_eq first (codes "cancel") then cancel_of words
     else if bytes_eq first (codes "stop") then stop_of words
+    else if bytes_eq first (codes "close") then close_of words
     else if bytes_eq first (codes "collect") then collect_of words
     else if bytes_eq first (codes "outcome") then outcome_of words
     else None

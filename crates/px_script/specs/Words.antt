@@ -1,8 +1,10 @@
 -- What the reader computes of single words. The rule of the lines stands in Spelling.
-use Rattle.std.specs.Prelude.{◌≡◌, ℕ, ◌+◌, ◌-◌, ◌*◌, ◌^◌, ◌<◌, List, [], ◌∷◌, length, Bool, ◌&&◌, ◌==◌, nat_le, nat_lt, if◌then◌else◌, fold, Option, Some, None, option_and_then}
+use Rattle.std.specs.Prelude.{◌≡◌, ℕ, ◌+◌, ◌-◌, ◌*◌, ◌^◌, ◌<◌, List, [], ◌∷◌, length, Bool, ◌&&◌, ◌==◌, nat_le, nat_lt, if◌then◌else◌, fold, Option, Some, None, option_and_then, codes}
 use Rattle.std.specs.List.{after_first, before_first, list_all, position_or_len, slice_split}
 use Rattle.std.specs.Str.{bytes_eq}
 use Rattle.px_base.specs.StorageName.{is_name_byte}
+use Rattle.px_base.specs.declared.phase.Phase.{Phase}
+use Rattle.px_base.specs.declared.phase.Phase.TheVariants.{Prepared, Committed}
 use Rattle.px_base.specs.declared.voter.Voter.{Voter}
 
 -- what stands before the first byte that is the mark, and what stands after it
@@ -50,9 +52,12 @@ name_of word =
     if nat_le 1 (length word) && nat_le (length word) 64 && list_all is_name_byte word
     then Some word else None
 
--- the word that is wanted
-abbrev pub fixed : List ℕ → List ℕ → Option (Unit {0})
-fixed text word = if bytes_eq word text then Some tt else None
+-- one of the two phases
+abbrev pub phase_of : List ℕ → Option Phase
+phase_of word =
+    if bytes_eq word (codes "prepared") then Some Prepared
+    else if bytes_eq word (codes "committed") then Some Committed
+    else None
 
 -- a voter of this name and this weight
 abbrev pub voter_from : Option (List ℕ) → Option ℕ → Option Voter

@@ -1,6 +1,6 @@
 //! What a line of a script may ask for.
 
-use px_base::{Hash, Items, StorageName, TxId, Voter};
+use px_base::{Hash, Items, Phase, StorageName, TxId, Voter};
 
 /// One step of a rehearsal, as a line of its script asks for it.
 #[derive(Drop)]
@@ -9,32 +9,41 @@ pub enum Event {
     Open {
         /// The weight that decides.
         threshold: u64,
+        /// How many rounds the transaction has. One of 1 to 8 is lawful.
+        rounds: u32,
         /// Who may vote, in the order of the line. There may be none, and one name may stand twice.
         voters: Items<Voter>,
     },
-    /// A voter votes for a hash in the prepared phase.
+    /// A voter votes for a hash in a phase.
     Cast {
         /// The transaction that is voted on.
         tx: TxId,
         /// Who votes.
         voter: StorageName,
+        /// The phase that the vote is for.
+        phase: Phase,
         /// What the vote is for.
         hash: Hash,
     },
-    /// A voter is canceled: its vote stands no more, and it casts none.
+    /// A voter is canceled: it casts no vote any more.
     Withdraw {
         /// The transaction that the voter leaves.
         tx: TxId,
         /// Who leaves.
         voter: StorageName,
     },
-    /// Cancels each voter of a transaction that is undecided.
+    /// Cancels, in each subtransaction, each voter that is undecided there.
     Cancel {
         /// The transaction.
         tx: TxId,
     },
-    /// Stops a transaction that is open: it decides nothing any more.
+    /// Stops each open subtransaction: they decide nothing any more.
     Stop {
+        /// The transaction.
+        tx: TxId,
+    },
+    /// Takes a transaction away, whatever became of it.
+    Close {
         /// The transaction.
         tx: TxId,
     },

@@ -1,7 +1,8 @@
 //! The kinds of line, each read from the words behind its first.
 
 ghost use Rattle.std.specs.Prelude.{◌≡◌};
-ghost use Rattle.px_script.specs.Reading.{Gives, cancel_of, cast_of, collect_of, open_of, outcome_of, stop_of, withdraw_of};
+ghost use Rattle.px_script.specs.Reading.{Gives, cancel_of, cast_of, close_of, collect_of};
+ghost use Rattle.px_script.specs.Reading.{open_of, outcome_of, stop_of, withdraw_of};
 
 use crate::line_words::LineWords;
 use crate::voters::read_voters;
@@ -9,33 +10,42 @@ use crate::{Event, ScriptLine};
 use px_base::TxId;
 use std::alloc::Global;
 
-/// `open T 1 NAME:WEIGHT ..`: a threshold, one round, and the voters.
+/// `open T ROUNDS NAME:WEIGHT ..`: a threshold, the number of rounds, and the voters.
 pub fn open(alloc: Global, words: &mut LineWords<'_>) -> ScriptLine
     ensures { Gives (open_of words.old) result }
 {
     let Some(threshold) = words.number() else {
         return ScriptLine::Bad;
     };
-    if words.fixed(b"1").is_none() {
+    let Some(rounds) = words.small() else {
         return ScriptLine::Bad;
-    }
+    };
     match read_voters(alloc, words) {
-        Ok(Some(voters)) => ScriptLine::Asks(Event::Open { threshold, voters }),
+        Ok(Some(voters)) => ScriptLine::Asks(Event::Open {
+            threshold,
+            rounds,
+            voters,
+        }),
         Ok(None) => ScriptLine::Bad,
         Err(_) => ScriptLine::Memory,
     }
 }
 
-/// `cast TX VOTER prepared HASH`
+/// `cast TX VOTER prepared HASH` or `cast TX VOTER committed HASH`
 pub fn cast(words: &mut LineWords<'_>) -> Option<Event>
     ensures { result ≡ cast_of words.old }
 {
     let tx = TxId(words.number()?);
     let voter = words.name()?;
-    words.fixed(b"prepared")?;
+    let phase = words.phase()?;
     let hash = words.hash()?;
     words.end()?;
-    Some(Event::Cast { tx, voter, hash })
+    Some(Event::Cast {
+        tx,
+        voter,
+        phase,
+        hash,
+    })
 }
 
 /// `withdraw TX VOTER`
@@ -64,6 +74,15 @@ pub fn stop(words: &mut LineWords<'_>) -> Option<Event>
     let tx = TxId(words.number()?);
     words.end()?;
     Some(Event::Stop { tx })
+}
+
+/// `close TX`
+pub fn close(words: &mut LineWords<'_>) -> Option<Event>
+    ensures { result ≡ close_of words.old }
+{
+    let tx = TxId(words.number()?);
+    words.end()?;
+    Some(Event::Close { tx })
 }
 
 /// `collect TX VOTER SUB`

@@ -2,11 +2,11 @@
 
 ghost use Rattle.std.specs.Prelude.{◌≡◌, ◌∷◌, [], IfNone, IfSome, drop};
 ghost use Rattle.px_base.specs.Hash.{hash_of};
-ghost use Rattle.px_script.specs.Words.{end_of, first_of, fixed, line_words, name_of, number_of, small_of};
+ghost use Rattle.px_script.specs.Words.{end_of, first_of, line_words, name_of, number_of, phase_of, small_of};
 
 use crate::cut::cut_at;
 use crate::number::{read_number, read_small};
-use px_base::{Hash, StorageName};
+use px_base::{Hash, Phase, StorageName};
 use std::marker::Model;
 
 /// A place in a line, with a word after it or none. There is one word more than there are spaces.
@@ -88,12 +88,12 @@ impl<'a> LineWords<'a> {
         Hash::read(self.next()?)
     }
 
-    /// Whether the next word is this one.
-    pub fn fixed(&mut self, text: &[u8]) -> Option<()>
-        ensures value { result ≡ first_of (fixed text.now) self.old }
+    /// The next word as a phase.
+    pub fn phase(&mut self) -> Option<Phase>
+        ensures value { result ≡ first_of phase_of self.old }
         ensures rest { self.new ≡ drop 1 self.old }
     {
-        if self.next()? == text { Some(()) } else { None }
+        read_phase(self.next()?)
     }
 
     /// Whether no word is left.
@@ -109,4 +109,17 @@ pub fn read_name(word: &[u8]) -> Option<StorageName>
     ensures { result ≡ name_of word.now }
 {
     StorageName::read(word).ok()
+}
+
+// One of the two phases, by its word.
+fn read_phase(word: &[u8]) -> Option<Phase>
+    ensures { result ≡ phase_of word.now }
+{
+    if word == b"prepared".as_slice() {
+        Some(Phase::Prepared)
+    } else if word == b"committed".as_slice() {
+        Some(Phase::Committed)
+    } else {
+        None
+    }
 }

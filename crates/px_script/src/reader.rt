@@ -61,6 +61,9 @@ fn read_event(alloc: Global, line: &[u8]) -> ScriptLine
     if is_text(first, b"stop") {
         return answer(kinds::stop(&mut words));
     }
+    if is_text(first, b"close") {
+        return answer(kinds::close(&mut words));
+    }
     if is_text(first, b"collect") {
         return answer(kinds::collect(&mut words));
     }

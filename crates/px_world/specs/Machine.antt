@@ -1,21 +1,23 @@
 -- The machine that a rehearsal drives: what each event answers, and where it leads.
-use Rattle.std.specs.Prelude.{◌+◌, ◌-◌, ◌^◌, nat_lt, Bool, true, false, if◌then◌else◌, [], ◌∷◌, ◌++◌, Option, None, Some}
-use Rattle.std.specs.Option.{option_map}
+use Rattle.std.specs.Prelude.{◌+◌, ◌-◌, ◌^◌, nat_lt, Bool, true, false, if◌then◌else◌, List, ℕ, Option, None, Some}
 use Rattle.px_base.specs.declared.ids.TxId.{TxId}
+use Rattle.px_base.specs.declared.voter.Voter.{Voter}
 use Rattle.px_script.specs.Spelling.{Asks}
 use Rattle.px_script.specs.declared.event.Event.{Event}
-use Rattle.px_script.specs.declared.event.Event.TheVariants.{Open, Cast, Withdraw, Cancel, Stop, Collect, Outcome}
+use Rattle.px_script.specs.declared.event.Event.TheVariants.{Open, Cast, Withdraw, Cancel, Stop, Close, Collect, Outcome}
 use Rattle.px_shell.specs.Machine.{Machine as MachineOf}
+use Rattle.txmanager.specs.Registry.{answer_at, are_lawful_rounds, transaction_at, with_changed, with_registered, without_transaction}
+use Rattle.txmanager.specs.Voting as on
 use Rattle.voters.specs.Panel.{panel_refusal}
 use Rattle.voters.specs.declared.panel.PanelRefusal.{PanelRefusal}
 use Rattle.voters.specs.declared.panel.PanelRefusal.TheVariants as panel
-use Rattle.px_world.specs.State.{State, transaction_at, with_transaction}
+use Rattle.px_world.specs.Replies.{counted, done, outcome_told, result_told}
+use Rattle.px_world.specs.State.{State}
 use Rattle.px_world.specs.Texts.{text_of}
-use Rattle.px_world.specs.Transaction.{Voting, opened, cast_reply, after_cast, withdraw_reply, after_withdraw, after_cancel, stop_reply, after_stop, collect_reply, outcome_reply, unless_refused}
 use Rattle.px_world.specs.declared.refusal.Refusal.{Refusal}
-use Rattle.px_world.specs.declared.refusal.Refusal.TheVariants.{NoVoters, TooManyVoters, DuplicateVoter, BadThreshold, TransactionsSpent, UnknownTx}
+use Rattle.px_world.specs.declared.refusal.Refusal.TheVariants.{NoVoters, TooManyVoters, DuplicateVoter, BadThreshold, BadRounds, TransactionsSpent}
 use Rattle.px_world.specs.declared.reply.Reply.{Reply}
-use Rattle.px_world.specs.declared.reply.Reply.TheVariants.{Opened, Done, Refused}
+use Rattle.px_world.specs.declared.reply.Reply.TheVariants.{Opened, Refused}
 
 -- what is refused where there is no such panel
 abbrev pub refused_panel : PanelRefusal → Option Refusal
@@ -25,62 +27,76 @@ refused_panel (panel.DuplicateVoter name) = Some (DuplicateVoter name)
 refused_panel (panel.BadThreshold total threshold) = Some (BadThreshold total threshold)
 refused_panel panel.Memory = None
 
--- the first reason why nothing is opened: there is no such panel, or no number is left
-abbrev pub open_refusal : State → Option PanelRefusal → Option Refusal
-open_refusal state (Some refusal) = refused_panel refusal
-open_refusal state None = if nat_lt state.last (2 ^ 64 - 1) then None else Some TransactionsSpent
+-- the first reason why nothing is opened: there is no such panel, the number of rounds is not from
+-- 1 to 8, or no number is left
+abbrev pub open_refusal : State → ℕ → Option PanelRefusal → Option Refusal
+open_refusal state rounds (Some refusal) = refused_panel refusal
+open_refusal state rounds None =
+    if are_lawful_rounds rounds
+    then (if nat_lt state.last (2 ^ 64 - 1) then None else Some TransactionsSpent)
+    else Some (BadRounds rounds)
+
+-- what an opening answers: the next number, or its refusal
+abbrev pub opening : State → Option Refusal → Reply
+opening state None = Opened (record { 0 = state.last + 1 })
+opening state (Some refusal) = Refused refusal
 
 -- one transaction more, with the next number
-abbrev pub with_opened : Option Refusal → State → Voting → State
-with_opened None state voting = record {
+abbrev pub with_opened : Option Refusal → State → ℕ → ℕ → List Voter → State
+with_opened (Some refusal) state threshold rounds voters = state
+with_opened None state threshold rounds voters = record {
   last = state.last + 1;
-  transactions = state.transactions ++ voting ∷ [];
+  transactions = with_registered state.transactions (record { 0 = state.last + 1 })
+      (on.voting_on (record { voters = voters; threshold = threshold }) rounds);
 }
-with_opened (Some refusal) state voting = state
-
--- what the transaction with that number answers, where there is one
-abbrev pub answer_at : Option Voting → TxId → (Voting → Reply) → Reply
-answer_at None tx reply = Refused (UnknownTx tx)
-answer_at (Some voting) tx reply = reply voting
-
-abbrev pub done : Voting → Reply
-done voting = Done
 
 -- the event opens a transaction
 abbrev pub opens : Event → Bool
-opens (Open threshold voters) = true
-opens (Cast tx voter hash) = false
+opens (Open threshold rounds voters) = true
+opens (Cast tx voter phase hash) = false
 opens (Withdraw tx voter) = false
 opens (Cancel tx) = false
 opens (Stop tx) = false
+opens (Close tx) = false
 opens (Collect tx voter sub) = false
 opens (Outcome tx sub) = false
 
 -- what an event answers
 abbrev pub reply_of : State → Event → Reply
-reply_of state (Open threshold voters) =
-    unless_refused (open_refusal state (panel_refusal voters threshold))
-    (Opened (record { 0 = state.last + 1 }))
-reply_of state (Cast tx voter hash) = answer_at (transaction_at state tx) tx (cast_reply voter hash)
-reply_of state (Withdraw tx voter) = answer_at (transaction_at state tx) tx (withdraw_reply voter)
-reply_of state (Cancel tx) = answer_at (transaction_at state tx) tx done
-reply_of state (Stop tx) = answer_at (transaction_at state tx) tx stop_reply
+reply_of state (Open threshold rounds voters) =
+    opening state (open_refusal state rounds (panel_refusal voters threshold))
+reply_of state (Cast tx voter phase hash) =
+    counted (answer_at (transaction_at state.transactions tx) tx (on.cast_answer voter phase hash))
+reply_of state (Withdraw tx voter) =
+    done (answer_at (transaction_at state.transactions tx) tx (on.cancel_voter_answer voter))
+reply_of state (Cancel tx) = done (answer_at (transaction_at state.transactions tx) tx on.done)
+reply_of state (Stop tx) = done (answer_at (transaction_at state.transactions tx) tx on.stop_answer)
+reply_of state (Close tx) = done (answer_at (transaction_at state.transactions tx) tx on.done)
 reply_of state (Collect tx voter sub) =
-    answer_at (transaction_at state tx) tx (collect_reply voter sub)
-reply_of state (Outcome tx sub) = answer_at (transaction_at state tx) tx (outcome_reply sub)
+    result_told (answer_at (transaction_at state.transactions tx) tx (on.collect_answer voter sub))
+reply_of state (Outcome tx sub) =
+    outcome_told (answer_at (transaction_at state.transactions tx) tx (on.outcome_answer sub))
+
+-- the state with what becomes of the transaction of a number, where there is one
+abbrev pub with_tx : State → TxId → (on.Voting → on.Voting) → State
+with_tx state tx becomes = record {
+  last = state.last;
+  transactions = with_changed state.transactions tx becomes;
+}
 
 -- where an event leads
 abbrev pub next_state : State → Event → State
-next_state state (Open threshold voters) =
-    with_opened (open_refusal state (panel_refusal voters threshold)) state (opened voters threshold)
-next_state state (Cast tx voter hash) =
-    with_transaction state tx (option_map (after_cast voter hash) (transaction_at state tx))
-next_state state (Withdraw tx voter) =
-    with_transaction state tx (option_map (after_withdraw voter) (transaction_at state tx))
-next_state state (Cancel tx) =
-    with_transaction state tx (option_map after_cancel (transaction_at state tx))
-next_state state (Stop tx) =
-    with_transaction state tx (option_map after_stop (transaction_at state tx))
+next_state state (Open threshold rounds voters) =
+    with_opened (open_refusal state rounds (panel_refusal voters threshold)) state
+    threshold rounds voters
+next_state state (Cast tx voter phase hash) = with_tx state tx (on.after_cast voter phase hash)
+next_state state (Withdraw tx voter) = with_tx state tx (on.after_cancel_voter voter)
+next_state state (Cancel tx) = with_tx state tx on.after_cancel
+next_state state (Stop tx) = with_tx state tx on.after_stop
+next_state state (Close tx) = record {
+  last = state.last;
+  transactions = without_transaction state.transactions tx;
+}
 next_state state (Collect tx voter sub) = state
 next_state state (Outcome tx sub) = state
 

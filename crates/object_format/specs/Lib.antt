@@ -1,0 +1,4 @@
+pub mod Grammar
+pub mod Links
+pub mod Name
+pub mod Reading

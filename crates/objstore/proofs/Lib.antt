@@ -1,0 +1,7 @@
+mod BoundLemmas
+mod EntriesLemmas
+mod FirstLemmas
+mod Ids
+mod QueueLemmas
+mod QueuedLemmas
+mod WalkLemmas

@@ -1,0 +1,6 @@
+pub mod Entries
+pub mod Missing
+pub mod Put
+pub mod Queue
+pub mod Reach
+pub mod Walk

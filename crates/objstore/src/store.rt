@@ -1,0 +1,188 @@
+//! A store of objects.
+
+ghost use Rattle.std.specs.Prelude.{◌≡◌, ◌⊎◌, [], IfOk, IfErr, IfSome, OnOk, OnErr, None};
+ghost use Rattle.std.specs.Option.{option_copied};
+ghost use Rattle.px_base.specs.declared.hash.Hash.{Hash};
+ghost use Rattle.object_format.specs.Links.{bad_byte, links_of};
+ghost use Rattle.objstore.specs.Entries.{IsNamed, IsStore, object_at, object_in};
+ghost use Rattle.objstore.specs.Put.{AddsObject, IsRefused, Puts};
+ghost use Rattle.objstore.specs.Reach.{IsClosed};
+ghost use Rattle.objstore.specs.Missing.{IsMissed};
+
+use crate::queue::Queue;
+use object_format::{check, links, name_of};
+use px_base::{Ids, Object, ObjectId};
+use std::alloc::{AllocError, Global};
+use std::collections::BTreeMap;
+use std::marker::Model;
+
+/// What putting an object came to.
+#[derive(Clone, Copy, Debug, PartialEq, Eq)]
+pub enum Put {
+    /// The store has it now.
+    Added,
+    /// The store had it already.
+    Present,
+}
+
+/// Why an object was not put into a store, in the order in which the causes are tested.
+#[derive(Clone, Copy, Debug, PartialEq, Eq)]
+pub enum PutFault {
+    /// The content breaks the form of its kind.
+    BadObject {
+        /// The first byte that breaks it, from 0, or the length where the content ends too early.
+        at: usize,
+    },
+    /// An object of the same name has other bytes or another kind.
+    Collision {
+        /// The name.
+        id: ObjectId,
+    },
+    /// Memory wanted.
+    Memory,
+}
+
+impl From<AllocError> for PutFault {
+    ghost use Rattle.std.specs.Prelude.{◌≡◌};
+    ghost use Rattle.objstore.specs.declared.store.PutFault.TheVariants.{Memory};
+
+    ghost from_gives = { λ _ e. e ≡ Memory };
+
+    fn from(_: AllocError) -> PutFault {
+        PutFault::Memory
+    }
+}
+
+/// Why not all that is reachable was found.
+#[derive(Clone, Copy, Debug, PartialEq, Eq)]
+pub enum ClosedFault {
+    /// The first id that the walk takes and that has no object.
+    Missing(ObjectId),
+    /// Memory wanted.
+    Memory,
+}
+
+impl From<AllocError> for ClosedFault {
+    ghost use Rattle.std.specs.Prelude.{◌≡◌};
+    ghost use Rattle.objstore.specs.declared.store.ClosedFault.TheVariants.{Memory};
+
+    ghost from_gives = { λ _ e. e ≡ Memory };
+
+    fn from(_: AllocError) -> ClosedFault {
+        ClosedFault::Memory
+    }
+}
+
+/// Git objects by their names, each under its own.
+#[derive(Drop)]
+pub struct Store {
+    objects: BTreeMap<ObjectId, Object>,
+}
+
+impl Model for Store {
+    ghost use Rattle.object_format.specs.Links.{bad_byte, links_of};
+    ghost use Rattle.objstore.specs.Entries.{Entries, IsStore};
+
+    ghost Value = { Entries };
+
+    ghost view = { λ s. s.objects.entries };
+
+    ghost invariant = { λ s. IsStore s.objects.entries };
+}
+
+impl Store {
+    /// The empty store. It takes no memory yet.
+    pub fn new(alloc: Global) -> Store
+        ensures { result ≡ [] }
+    {
+        Store {
+            objects: BTreeMap::new(alloc),
+        }
+    }
+
+    /// Puts a copy of an object under its name. A refusal leaves the store as it was.
+    pub fn put(&mut self, alloc: Global, object: &Object) -> Result<Put, PutFault>
+        ensures ok { IfOk result (Puts self.old self.new object.now) }
+        ensures accepted { OnOk result (bad_byte object.now.kind object.now.content ≡ None) }
+        ensures refused { IfErr result (IsRefused self.old object.now) }
+        ensures err { OnErr result (self.new ≡ self.old) }
+        ensures store { OnOk result (IsStore self.new) }
+    {
+        if let Some(at) = check(object.kind(), object.content()) {
+            return Err(PutFault::BadObject { at });
+        }
+        let id = name_of(object.kind(), object.content());
+        if let Some(other) = self.objects.get(&id) {
+            if other.is_same(object) {
+                return Ok(Put::Present);
+            }
+            return Err(PutFault::Collision { id });
+        }
+        self.add(alloc, id, object)?;
+        Ok(Put::Added)
+    }
+
+    // Adds a copy of an object under its name, which is not there yet.
+    fn add(&mut self, alloc: Global, id: ObjectId, object: &Object) -> Result<(), AllocError>
+        requires named { IsNamed id object.now }
+        requires absent { object_at self.old id ≡ None }
+        ensures ok { OnOk result (AddsObject self.old self.new id object.now) }
+        ensures store { OnOk result (IsStore self.new) }
+        ensures err { OnErr result (self.new ≡ self.old) }
+    {
+        let copy = object.copy(alloc)?;
+        self.objects.insert(id, copy)?;
+        Ok(())
+    }
+
+    /// The object of that name. Takes no memory.
+    pub fn get(&self, id: &ObjectId) -> Option<&Object>
+        ensures value { option_copied result ≡ object_at self.now id.now }
+        ensures named { IfSome result (λ object. IsNamed id.now object.now) }
+        ensures store { IsStore self.now }
+    {
+        self.objects.get(id)
+    }
+
+    /// Whether each id that is reachable from the tips has an object, here or in the extra store.
+    /// Where both have an id, the object that is here counts.
+    pub fn closed(&self, alloc: Global, tips: &[ObjectId], extra: &Store) -> Result<(), ClosedFault>
+        ensures ok { OnOk result (IsClosed (object_in self.now extra.now) tips.now) }
+        ensures missing { IfErr result (IsMissed (object_in self.now extra.now) tips.now) }
+    {
+        let mut queue = Queue::new(alloc);
+        queue.push_all(tips)?;
+        while let Some(id) = queue.take() {
+            let Some(object) = self.find(&id, extra) else {
+                return Err(ClosedFault::Missing(id));
+            };
+            let links = links_in_form(alloc, object)?;
+            queue.push_all(links.as_slice())?;
+        }
+        Ok(())
+    }
+
+    // The object of an id here, or else in the extra store.
+    fn find<'a>(&'a self, id: &ObjectId, extra: &'a Store) -> Option<&'a Object>
+        ensures value { option_copied result ≡ object_in self.now extra.now id.now }
+        ensures form { IfSome result (λ object.
+            bad_byte object.now.kind object.now.content ≡ None) }
+    {
+        match self.get(id) {
+            Some(object) => Some(object),
+            None => extra.get(id),
+        }
+    }
+}
+
+// The links of an object that has the form of its kind.
+fn links_in_form(alloc: Global, object: &Object) -> Result<Ids, AllocError>
+    requires { bad_byte object.now.kind object.now.content ≡ None }
+    ensures { IfOk result (λ ids. ids ≡ links_of object.now.kind object.now.content) }
+{
+    match links(alloc, object.kind(), object.content()) {
+        Ok(ids) => Ok(ids),
+        // No byte is bad, so memory wants.
+        Err(_) => Err(AllocError),
+    }
+}

@@ -1,0 +1,49 @@
+//! Why a run did not end well.
+
+use std::alloc::AllocError;
+
+/// Why a run did not end well.
+#[derive(Clone, Copy)]
+pub enum End {
+    /// The words name no work.
+    Usage,
+    /// The input failed.
+    ReadFault,
+    /// The output failed.
+    WriteFault,
+    /// The input is not what the work reads.
+    BadInput,
+    /// Memory wanted.
+    Memory,
+}
+
+impl End {
+    /// The exit status of the process.
+    pub fn code(self) -> u8 {
+        match self {
+            End::Usage => 2,
+            End::ReadFault => 3,
+            End::WriteFault => 4,
+            End::BadInput => 6,
+            End::Memory => 7,
+        }
+    }
+
+    /// What is said of it, in one line.
+    pub fn message(self) -> &'static [u8] {
+        match self {
+            End::Usage =>
+                b"plumbing: usage: plumbing objects | hook | vote | hash N | chain N TURNS | wide N TURNS\n",
+            End::ReadFault => b"plumbing: read fault\n",
+            End::WriteFault => b"plumbing: write fault\n",
+            End::BadInput => b"plumbing: bad input\n",
+            End::Memory => b"plumbing: out of memory\n",
+        }
+    }
+}
+
+impl From<AllocError> for End {
+    fn from(_: AllocError) -> End {
+        End::Memory
+    }
+}

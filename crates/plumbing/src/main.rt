@@ -1,0 +1,78 @@
+//! Work for the checks and the benches of the repository. The first word names it:
+//!
+//! - `objects` reads objects, and prints the name and the links of each;
+//! - `hook` and `vote` read a push, and print the text that Git's hook is given of it, or the vote;
+//! - `hash N` names an object of 8,000,000 bytes N times;
+//! - `chain N TURNS` and `wide N TURNS` put a chain of N commits, or a tree of N files, into a store,
+//!   and say TURNS times whether all that is reachable from the last one is there.
+//!
+//! A word calls the crates, and has no rules of its own.
+#![tactic(auto)]
+
+mod closure;
+mod end;
+mod hash;
+mod objects;
+mod references;
+
+use crate::end::End;
+use px_base::{Sink, Source, StdSink, StdSource, write_all};
+use std::alloc::Global;
+use std::env;
+use std::io::ErrorKind;
+use std::process::ExitCode;
+use std::rt::Env;
+
+/// The words of the command line, without the program's name; an error is want of memory or a word
+/// that is no text.
+fn words_of<R: Env + AllocGlobal>(rt: &R) -> Result<Vec<String>, End> {
+    let mut words = Vec::new(rt.alloc());
+    let args = match env::args(rt) {
+        Ok(args) => args,
+        Err(error) if error.kind() == ErrorKind::OutOfMemory => return Err(End::Memory),
+        Err(_) => return Err(End::Usage),
+    };
+    for word in args.skip(1) {
+        words.push(word).map_err(|_| End::Memory)?;
+    }
+    Ok(words)
+}
+
+/// Does the work that the first word names.
+fn work<S: Source, O: Sink>(
+    alloc: Global,
+    words: &[String],
+    input: &mut S,
+    out: &mut O,
+) -> Result<(), End> {
+    match words {
+        [word] if word.as_str() == "objects" => objects::objects(alloc, input, out),
+        [word] if word.as_str() == "hook" => references::hook(alloc, input, out),
+        [word] if word.as_str() == "vote" => references::vote(alloc, input, out),
+        [word, count] if word.as_str() == "hash" => hash::hash(alloc, count.as_str(), out),
+        [word, count, turns] if word.as_str() == "chain" => {
+            closure::chain(alloc, count.as_str(), turns.as_str(), out)
+        }
+        [word, count, turns] if word.as_str() == "wide" => {
+            closure::wide(alloc, count.as_str(), turns.as_str(), out)
+        }
+        _ => Err(End::Usage),
+    }
+}
+
+fn main(rt: HostRuntime) -> ExitCode {
+    let mut out = StdSink::new(rt.stdout());
+    let mut err = StdSink::new(rt.stderr());
+    let end = match (words_of(&rt), StdSource::new(rt.alloc(), rt.stdin())) {
+        (Ok(words), Ok(mut input)) => work(rt.alloc(), &words, &mut input, &mut out),
+        (Err(end), _) => Err(end),
+        _ => Err(End::Memory),
+    };
+    match end {
+        Ok(()) => ExitCode::SUCCESS,
+        Err(end) => {
+            let _ = write_all(&mut err, end.message());
+            ExitCode::from(end.code())
+        }
+    }
+}

@@ -1,0 +1,72 @@
+//! `hook` and `vote`: read a push, a line for each update as `OLD SP NEW SP NAME`, and print the text
+//! that Git's hook is given of it, or the vote on it.
+
+use crate::end::End;
+use px_base::{
+    Bytes, Hash, LineEnd, NameFault, RefName, Sink, Source, Update, Updates, WrittenEnd, line,
+    write_all,
+};
+use refstore::{hook_text, vote_of};
+use std::alloc::Global;
+
+/// More than the longest line of an update takes.
+const LINE_BYTES: usize = 512;
+
+// What stands before the first space, and what stands after it.
+fn field(text: &[u8]) -> Option<(&[u8], &[u8])> {
+    let space = text.iter().position(|byte| *byte == b' ')?;
+    Some((&text[..space], &text[space + 1..]))
+}
+
+// The two object names, and the rest of the line.
+fn names_of(text: &[u8]) -> Option<(Hash, Hash, &[u8])> {
+    let (old, rest) = field(text)?;
+    let (new, name) = field(rest)?;
+    Some((Hash::read(old)?, Hash::read(new)?, name))
+}
+
+fn update_of(alloc: Global, text: &[u8]) -> Result<Update, End> {
+    let (old, new, name) = names_of(text).ok_or(End::BadInput)?;
+    match RefName::read(alloc, name) {
+        Ok(name) => Ok(Update { old, new, name }),
+        Err(NameFault::BadName { .. }) => Err(End::BadInput),
+        Err(NameFault::Memory) => Err(End::Memory),
+    }
+}
+
+// The updates to the end of the input.
+fn updates<S: Source>(alloc: Global, input: &mut S) -> Result<Updates, End> {
+    let mut updates = Updates::new(alloc);
+    for _ in 0..u64::MAX {
+        match line(alloc, input, LINE_BYTES) {
+            LineEnd::Line(text) => updates.push(update_of(alloc, text.as_slice())?)?,
+            LineEnd::End => return Ok(updates),
+            LineEnd::TooLong => return Err(End::BadInput),
+            LineEnd::ReadFault => return Err(End::ReadFault),
+            LineEnd::Memory => return Err(End::Memory),
+        }
+    }
+    Ok(updates)
+}
+
+fn print<O: Sink>(out: &mut O, text: &[u8]) -> Result<(), End> {
+    match write_all(out, text) {
+        WrittenEnd::All => Ok(()),
+        WrittenEnd::Failed => Err(End::WriteFault),
+    }
+}
+
+/// Prints the hook text of the push.
+pub fn hook<S: Source, O: Sink>(alloc: Global, input: &mut S, out: &mut O) -> Result<(), End> {
+    let updates = updates(alloc, input)?;
+    let text = hook_text(alloc, updates.as_slice())?;
+    print(out, text.as_slice())
+}
+
+/// Prints the vote on the push.
+pub fn vote<S: Source, O: Sink>(alloc: Global, input: &mut S, out: &mut O) -> Result<(), End> {
+    let updates = updates(alloc, input)?;
+    let mut text = Bytes::from_slice(alloc, &vote_of(updates.as_slice()).text())?;
+    text.push(b'\n')?;
+    print(out, text.as_slice())
+}

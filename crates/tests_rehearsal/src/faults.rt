@@ -6,6 +6,7 @@ use px_shell::{Act, StateMachine};
 use px_top::{Status, run, tell_memory};
 use px_world::{Event, Refusal, RehearseEnd, Reply, World, line_of, rehearse};
 use std::test::Fail;
+use txmanager::TxRefusal;
 use voters::{Outcome, VoterResult};
 
 const SCRIPT: &[u8] =
@@ -135,7 +136,7 @@ fn a_step_answers_and_its_reply_has_a_line(rt: HostRuntime) -> Result<(), Fail> 
         Reply::OutcomeIs(Outcome::Open)
     );
     let stop = Event::Stop { tx: TxId(2) };
-    let unknown = Reply::Refused(Refusal::UnknownTx(TxId(2)));
+    let unknown = Reply::Refused(Refusal::Transaction(TxRefusal::UnknownTx(TxId(2))));
     assert_eq!(rt; world.step(alloc, &stop)?, unknown);
     let line = line_of(alloc, &unknown)?;
     assert_eq!(rt; line.as_slice(), b"refused UnknownTx 2\n".as_slice());

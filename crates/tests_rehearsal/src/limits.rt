@@ -33,13 +33,13 @@ fn a_bad_line_ends_the_run_at_its_number(rt: HostRuntime) -> Result<(), Fail> {
             "cast 1 a prepared 111111111111111111111111111111111111111",
         ),
         ("an empty name", "open 1 1 :1"),
-        ("two rounds", "open 1 2 a:1"),
+        ("rounds above their range", "open 1 4294967296 a:1"),
         (
-            "a phase that is not built",
-            "cast 1 a committed 1111111111111111111111111111111111111111",
+            "another state of the hook",
+            "cast 1 a aborted 1111111111111111111111111111111111111111",
         ),
         ("a word too many", "stop 1 1"),
-        ("another word", "close 1"),
+        ("another word", "finish 1"),
         ("a blank", " "),
     ];
     for (what, line) in table {

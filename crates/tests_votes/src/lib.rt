@@ -6,4 +6,6 @@ mod names;
 #[cfg(test)]
 mod streams;
 #[cfg(test)]
+mod transactions;
+#[cfg(test)]
 mod votes;

@@ -1,0 +1,9 @@
+//! Tests of objects, their stores, and closure; and of references.
+#![tactic(auto)]
+
+#[cfg(test)]
+mod format;
+#[cfg(test)]
+mod references;
+#[cfg(test)]
+mod store;

@@ -1,8 +1,9 @@
 #!/usr/bin/env python3
-"""Writes a script of many votes to standard output: make_script.py VOTES [all]
+"""Writes a script of many votes to standard output: make_script.py VOTES [votes|all|rounds]
 
-Each vote is 8 lines: `open` with three voters, three `cast`, three `collect`, one `outcome`. With `all`, each vote is
-12 lines: a withdrawal, a cancel, a stop and one more `outcome` follow.
+`votes`: each vote is 8 lines: `open` with three voters, three `cast`, three `collect`, one `outcome`. `all`: each vote
+is 12 lines: a withdrawal, a cancel, a stop and one more `outcome` follow. `rounds`: transactions of three voters and two
+rounds. All are opened first, then voted on one phase after the other, and closed at the end: 14 lines each.
 """
 
 import sys
@@ -25,10 +26,25 @@ def vote(tx, every_line):
     return lines
 
 
+def rounds(count):
+    for _ in range(count):
+        yield "open 2 2 a:1 b:1 c:1"
+    for phase in ["prepared", "committed"] * 2:
+        for tx in range(1, count + 1):
+            for voter in "abc":
+                yield f"cast {tx} {voter} {phase} {tx:040x}"
+    for tx in range(1, count + 1):
+        yield f"close {tx}"
+
+
 def main():
-    votes, every_line = int(sys.argv[1]), sys.argv[2:] == ["all"]
+    votes, kind = int(sys.argv[1]), (sys.argv[2:] or ["votes"])[0]
+    if kind == "rounds":
+        for line in rounds(votes):
+            sys.stdout.write(line + "\n")
+        return
     for tx in range(1, votes + 1):
-        sys.stdout.write("\n".join(vote(tx, every_line)) + "\n")
+        sys.stdout.write("\n".join(vote(tx, kind == "all")) + "\n")
 
 
 if __name__ == "__main__":

@@ -18,7 +18,7 @@ print(f"{usage.ru_utime:8.2f} s user {usage.ru_stime:8.2f} s system {usage.ru_ma
 PY
 }
 
-for kind in votes all rounds; do
+for kind in votes all rounds wide; do
     for part in 4 2 1; do
         script=$work/script
         python3 "$top/bench/make_script.py" $((votes / part)) "$kind" >"$script"

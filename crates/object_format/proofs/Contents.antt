@@ -8,7 +8,9 @@ use Rattle.px_base.specs.declared.hash.Hash.{Hash}
 use Rattle.px_base.specs.declared.kind.Kind.{Kind}
 use Rattle.px_base.specs.declared.kind.Kind.TheVariants.{Commit, Tree, Blob, Tag}
 use Rattle.object_format.specs.Grammar.{BeginsWithParent, Entry, entry_text, header_line, IsEntry, link_of, parent_line, Spells, SpellsCommit, SpellsTag, SpellsTree}
-use Rattle.object_format.specs.Reading.{and_then, entry_at, line_at, link_at, links_at, parents_at, parents_of, tag_at, tree_at, tree_of, with_parent}
+use Rattle.object_format.specs.Links.{links_at}
+use Rattle.object_format.specs.Reading.{and_then, line_at, parents_at, parents_of, tag_at, with_parent}
+use Rattle.object_format.specs.TreeReading.{entry_at, link_at, tree_at, tree_of}
 use Rattle.object_format.proofs.Entries.{entry_reader}
 use Rattle.object_format.proofs.Lines.{IsLine, IsTagHead, line_reader, tag_reader}
 use Rattle.object_format.proofs.Readers.{Breaks, IsReader, left_of, same_read, Some_of}

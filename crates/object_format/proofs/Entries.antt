@@ -5,7 +5,8 @@ use Rattle.std.proofs.lemmas.Bool.{and_from, and_parts, eq-eqb, eqb-true, false_
 use Rattle.std.proofs.lemmas.List.{append-nil, append_assoc, drop_at, length-append, length-replicate, length-take, take-append-drop, take_at}
 use Rattle.px_base.specs.declared.hash.Hash.{Hash}
 use Rattle.object_format.specs.Grammar.{are_bytes, Entry, entry_text, is_octal_digit, IsEntry}
-use Rattle.object_format.specs.Reading.{and_then, entry_at, file_name_at, id_at, in_file_name, in_mode, mode_at, until_at}
+use Rattle.object_format.specs.Reading.{and_then}
+use Rattle.object_format.specs.TreeReading.{entry_at, file_name_at, id_at, in_file_name, in_mode, mode_at, until_at}
 use Rattle.object_format.proofs.Readers.{as_form, Begins, Breaks, IsJoined, IsNothing, IsReader, joined_reader, left_of, nothing_reader, same_read, Some_of}
 
 -- a byte before a value

@@ -6,8 +6,7 @@ use Rattle.std.proofs.lemmas.List.{append_assoc, length-append, take-append-drop
 use Rattle.px_base.specs.declared.hash.Hash.{Hash}
 use Rattle.px_base.specs.declared.kind.Kind.{Kind}
 use Rattle.object_format.specs.Grammar.{GoesOn, GoesOnInBytes, IsFirstBad, Spells}
-use Rattle.object_format.specs.Links.{bad_byte, links_of, place_of}
-use Rattle.object_format.specs.Reading.{links_at}
+use Rattle.object_format.specs.Links.{bad_byte, links_at, links_of, place_of}
 use Rattle.object_format.proofs.Contents.{kind_reader}
 use Rattle.object_format.proofs.Readers.{Breaks, Some_of}
 

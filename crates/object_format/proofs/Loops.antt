@@ -7,7 +7,8 @@ use Rattle.std.proofs.lemmas.List.{append-nil}
 use Rattle.px_base.specs.declared.hash.Hash.{Hash}
 use Rattle.object_format.specs.declared.read_fault.ReadFault.{ReadFault}
 use Rattle.object_format.specs.declared.read_fault.ReadFault.TheVariants.{Left, Memory}
-use Rattle.object_format.specs.Reading.{and_then, Finds, link_at, tree_of}
+use Rattle.object_format.specs.Reading.{and_then, Finds}
+use Rattle.object_format.specs.TreeReading.{link_at, tree_of}
 use Rattle.object_format.proofs.Contents.{links_more, links_stop, tree_of-nil}
 
 -- a list that is not empty has a byte

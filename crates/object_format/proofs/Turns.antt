@@ -3,7 +3,8 @@ use Rattle.std.proofs.Common.{◌≡◌, ◌++◌, ◌+◌, ◌-◌, ◌<◌, �
 use Rattle.std.proofs.lemmas.Bool.{eq-eqb}
 use Rattle.std.proofs.lemmas.List.{append-nil, drop_all, length-drop, take_more, take_rest}
 use Rattle.px_base.specs.Hash.{is_hex_digit}
-use Rattle.object_format.specs.Reading.{and_then, byte_at, digits_at, text_at, until_at}
+use Rattle.object_format.specs.Reading.{and_then, byte_at, digits_at, text_at}
+use Rattle.object_format.specs.TreeReading.{until_at}
 
 -- bytes before a value that is read
 abbrev pub with_front : List ℕ → Result (List ℕ × List ℕ) ℕ → Result (List ℕ × List ℕ) ℕ

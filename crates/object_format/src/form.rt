@@ -2,10 +2,9 @@
 //! are left from the first bad one on.
 
 ghost use Rattle.std.specs.Prelude.{◌≡◌, ℕ, List, Result};
-ghost use Rattle.px_base.specs.Hash.{is_hex_digit};
 ghost use Rattle.object_format.specs.Reading.{Gives, any_word_at, digits_at, line_at, name_at, or_else, tag_at, text_at};
 
-use px_base::{Hash, ObjectId};
+use px_base::{Hash, ObjectId, is_hex_digit};
 
 // These bytes.
 fn text<'a>(text: &[u8], bytes: &'a [u8]) -> Result<&'a [u8], usize>
@@ -20,19 +19,13 @@ fn text<'a>(text: &[u8], bytes: &'a [u8]) -> Result<&'a [u8], usize>
     Ok(&bytes[text.len()..])
 }
 
-fn is_digit(byte: u8) -> bool
-    ensures { result ≡ is_hex_digit byte }
-{
-    matches!(byte, b'0'..=b'9' | b'a'..=b'f')
-}
-
 // The digits of a name, in lower case.
 fn digits(bytes: &[u8]) -> Result<(&[u8], &[u8]), usize>
     ensures { Gives (λ parts. (parts.0.now, parts.1.now)) result (digits_at 40 bytes.now) }
 {
     for place in 0..40 {
         match bytes.get(place) {
-            Some(byte) if is_digit(*byte) => {}
+            Some(byte) if is_hex_digit(*byte) => {}
             _ => return Err(bytes.len() - place),
         }
     }

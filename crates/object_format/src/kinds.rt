@@ -2,8 +2,8 @@
 
 ghost use Rattle.std.specs.Prelude.{◌≡◌, ◌⊎◌, ◌++◌, ℕ, IfOk, IfErr, OnOk, None, Some};
 ghost use Rattle.std.specs.Result.{result_err};
-ghost use Rattle.object_format.specs.Links.{bad_byte, links_of};
-ghost use Rattle.object_format.specs.Reading.{Finds, links_at, parents_of};
+ghost use Rattle.object_format.specs.Links.{bad_byte, links_at, links_of};
+ghost use Rattle.object_format.specs.Reading.{Finds, parents_of};
 
 use crate::form::{line, tag};
 use crate::read_fault::ReadFault;
@@ -37,7 +37,7 @@ fn push_parents(ids: &mut Ids, bytes: &[u8]) -> Result<(), AllocError>
 }
 
 // The tree and the parents.
-#[tactic(auto, unfolding(crate::specs::Reading::links_at))]
+#[tactic(auto, unfolding(crate::specs::Links::links_at))]
 fn commit_links(alloc: Global, content: &[u8]) -> Result<Ids, ReadFault>
     ensures { Finds result (links_at Kind.Commit content.now) }
 {
@@ -49,7 +49,7 @@ fn commit_links(alloc: Global, content: &[u8]) -> Result<Ids, ReadFault>
 }
 
 // The object.
-#[tactic(auto, unfolding(crate::specs::Reading::links_at))]
+#[tactic(auto, unfolding(crate::specs::Links::links_at))]
 fn tag_links(alloc: Global, content: &[u8]) -> Result<Ids, ReadFault>
     ensures { Finds result (links_at Kind.Tag content.now) }
 {
@@ -59,7 +59,7 @@ fn tag_links(alloc: Global, content: &[u8]) -> Result<Ids, ReadFault>
     Ok(ids)
 }
 
-#[tactic(auto, unfolding(crate::specs::Reading::links_at))]
+#[tactic(auto, unfolding(crate::specs::Links::links_at))]
 fn read(alloc: Global, kind: Kind, content: &[u8]) -> Result<Ids, ReadFault>
     ensures { Finds result (links_at kind content.now) }
 {
@@ -72,7 +72,7 @@ fn read(alloc: Global, kind: Kind, content: &[u8]) -> Result<Ids, ReadFault>
 }
 
 // How many bytes are left from the first bad one on, where there is one.
-#[tactic(auto, unfolding(crate::specs::Reading::links_at))]
+#[tactic(auto, unfolding(crate::specs::Links::links_at))]
 fn fault(kind: Kind, content: &[u8]) -> Option<usize>
     ensures { result ≡ result_err (links_at kind content.now) }
 {

@@ -3,7 +3,8 @@
 
 ghost use Rattle.std.specs.Prelude.{◌≡◌};
 ghost use Rattle.std.specs.Result.{result_err};
-ghost use Rattle.object_format.specs.Reading.{Finds, Gives, file_name_at, id_at, in_mode, link_at, mode_at, tree_of};
+ghost use Rattle.object_format.specs.Reading.{Finds, Gives};
+ghost use Rattle.object_format.specs.TreeReading.{file_name_at, id_at, in_mode, link_at, mode_at, tree_of};
 
 use crate::read_fault::ReadFault;
 use px_base::{Hash, Ids, ObjectId};
@@ -52,7 +53,7 @@ fn file_name(bytes: &[u8]) -> Result<(&[u8], &[u8]), usize>
 }
 
 // The 20 bytes of a name.
-#[tactic(auto, unfolding(crate::specs::Reading::id_at))]
+#[tactic(auto, unfolding(crate::specs::TreeReading::id_at))]
 fn id(bytes: &[u8]) -> Result<(ObjectId, &[u8]), usize>
     ensures { Gives (λ read. (read.0, read.1.now)) result (id_at bytes.now) }
 {
@@ -63,7 +64,7 @@ fn id(bytes: &[u8]) -> Result<(ObjectId, &[u8]), usize>
 }
 
 /// The link of the first entry, if it has one, and what stands behind the entry.
-#[tactic(auto, unfolding(crate::specs::Reading::entry_at))]
+#[tactic(auto, unfolding(crate::specs::TreeReading::entry_at))]
 pub fn link(bytes: &[u8]) -> Result<(Option<ObjectId>, &[u8]), usize>
     ensures { Gives (λ read. (read.0, read.1.now)) result (link_at bytes.now) }
 {

@@ -1,5 +1,5 @@
 -- The names of references, as lists of bytes: which places of a text are bad (git-check-ref-format(1)).
-use Rattle.std.specs.Prelude.{◌≡◌, ℕ, ◌<◌, ◌≤◌, Bool, true, false, not, ◌&&◌, ◌||◌, ◌==◌, nat_lt, nat_le, nat_eq, if◌then◌else◌, List, length, take, Option, None, Some, codes, slice_get}
+use Rattle.std.specs.Prelude.{◌≡◌, ℕ, ◌≤◌, Bool, true, false, not, ◌&&◌, ◌||◌, ◌==◌, nat_lt, nat_le, nat_eq, if◌then◌else◌, List, length, take, Option, None, Some, codes, slice_get}
 use Rattle.std.specs.List.{ends_with}
 
 -- the bytes end with these

@@ -11,7 +11,8 @@ pub struct Hash(pub [u8; 20]);
 /// (git-hash-object(1)).
 pub type ObjectId = Hash;
 
-fn is_digit(byte: u8) -> bool
+/// Whether the byte is a hexadecimal digit in lower case.
+pub fn is_hex_digit(byte: u8) -> bool
     ensures { result ≡ is_hex_digit byte }
 {
     matches!(byte, b'0'..=b'9' | b'a'..=b'f')
@@ -25,7 +26,7 @@ impl Hash {
         ensures lawful { IfSome result (λ hash. IsHashText text.now) }
         ensures refused { IfNone result (¬ (IsHashText text.now)) }
     {
-        if !text.iter().all(|byte| is_digit(*byte)) {
+        if !text.iter().all(|byte| is_hex_digit(*byte)) {
             return None;
         }
         let mut bytes = [0; 20];

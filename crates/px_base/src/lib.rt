@@ -20,7 +20,7 @@ mod storage_name;
 mod voter;
 mod words;
 
-pub use hash::{Hash, ObjectId, a_hash_and_its_text_are_one};
+pub use hash::{Hash, ObjectId, a_hash_and_its_text_are_one, is_hex_digit};
 pub use ids::TxId;
 pub use items::{Bytes, Ids, Items};
 pub use kind::Kind;

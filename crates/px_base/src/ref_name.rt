@@ -1,18 +1,12 @@
 //! The names of references.
 
-ghost use Rattle.std.specs.Prelude.{◌≡◌, ◌⊎◌, ℕ, Some, IfOk, IfErr, IfNone, IfSome, nat_eq, refl};
-ghost use Rattle.std.specs.Cmp.{partial_equiv_from_equiv};
-ghost use Rattle.std.specs.Cmp.Lexicographic.{pointwise, slice_cmp, nat_list_eq_equiv};
-ghost use Rattle.std.specs.Cmp.Lexicographic.{nat_list_cmp_total, texts_po, texts_ties};
-ghost use Rattle.std.specs.Ordering.{nat_cmp};
+ghost use Rattle.std.specs.Prelude.{◌≡◌, ◌⊎◌, ℕ, IfOk, IfErr, IfNone, IfSome};
 ghost use Rattle.px_base.specs.RefName.{IsBadAt, IsRefName, follows_badly, is_bad_byte};
 ghost use Rattle.px_base.specs.FirstPlace.{IsFirst};
 ghost use Rattle.px_base.specs.RefName.{is_bad_end, is_forbidden, is_misplaced};
 
-use crate::NameFault;
+use crate::{Bytes, NameFault};
 use std::alloc::{AllocError, Global};
-use std::cmp::Ordering;
-use std::fmt;
 use std::marker::Model;
 
 /// The greatest length of the name of a reference, in bytes.
@@ -25,9 +19,9 @@ const PREFIX: [u8; 5] = *b"refs/";
 /// `refs/`. No byte is a space, a control byte, one of `~ ^ : ? * [ \` or above ASCII. No component,
 /// which a `/` ends, is empty or ends with `.lock`, and none begins with `.`; no `..` and no `@{`
 /// stands in it, and it does not end with `.`.
-#[derive(Drop)]
+#[derive(Drop, Debug, PartialEq, Eq, PartialOrd, Ord)]
 pub struct RefName {
-    bytes: Vec<u8>,
+    bytes: Bytes,
 }
 
 impl Model for RefName {
@@ -36,9 +30,11 @@ impl Model for RefName {
 
     ghost Value = { List ℕ };
 
-    ghost view = { λ n. n.bytes.items };
+    ghost view = { λ n. n.bytes };
 
-    ghost invariant = { λ n. IsRefName n.bytes.items };
+    ghost inverse = { λ bytes. record { bytes = bytes } };
+
+    ghost invariant = { λ n. IsRefName n.bytes };
 }
 
 impl RefName {
@@ -52,7 +48,7 @@ impl RefName {
         if let Some(at) = first_bad(text) {
             return Err(NameFault::BadName { at });
         }
-        match Vec::from_slice(alloc, text) {
+        match Bytes::from_slice(alloc, text) {
             Ok(bytes) => Ok(RefName { bytes }),
             Err(_) => Err(NameFault::Memory),
         }
@@ -62,7 +58,7 @@ impl RefName {
     pub fn copy(&self, alloc: Global) -> Result<RefName, AllocError>
         ensures { IfOk result (λ copied. copied ≡ self.now) }
     {
-        let bytes = Vec::from_slice(alloc, &self.bytes)?;
+        let bytes = Bytes::from_slice(alloc, self.as_bytes())?;
         Ok(RefName { bytes })
     }
 
@@ -71,51 +67,7 @@ impl RefName {
         ensures value { result.now ≡ self.now }
         ensures name { IsRefName self.now }
     {
-        &self.bytes
-    }
-}
-
-impl fmt::Debug for RefName {
-    fn fmt<W: fmt::Write>(&self, f: &mut fmt::Formatter<W>) -> fmt::Result {
-        fmt::Debug::fmt(self.as_bytes(), f)
-    }
-}
-
-impl PartialEq for RefName {
-    ghost eq = { pointwise nat_eq };
-
-    ghost laws = { partial_equiv_from_equiv nat_list_eq_equiv };
-
-    fn eq(&self, other: &RefName) -> bool {
-        self.as_bytes() == other.as_bytes()
-    }
-}
-
-impl Eq for RefName {
-    ghost laws = { nat_list_eq_equiv };
-}
-
-impl PartialOrd for RefName {
-    ghost partial_cmp = { λ a b. Some (slice_cmp nat_cmp a b) };
-
-    ghost laws = { texts_po };
-
-    fn partial_cmp(&self, other: &RefName) -> Option<Ordering> {
-        Some(self.cmp(other))
-    }
-}
-
-impl Ord for RefName {
-    ghost cmp = { slice_cmp nat_cmp };
-
-    ghost total = { nat_list_cmp_total };
-
-    ghost matches_partial_cmp = { λ a b. refl };
-
-    ghost matches_eq = { texts_ties };
-
-    fn cmp(&self, other: &RefName) -> Ordering {
-        self.as_bytes().cmp(other.as_bytes())
+        self.bytes.as_slice()
     }
 }
 

@@ -1,18 +1,12 @@
 //! The relative paths of repositories.
 
-ghost use Rattle.std.specs.Prelude.{◌≡◌, ◌⊎◌, ◌≤◌, ℕ, Some, IfOk, IfErr, IfNone, IfSome, length, nat_eq, refl};
-ghost use Rattle.std.specs.Cmp.{partial_equiv_from_equiv};
-ghost use Rattle.std.specs.Cmp.Lexicographic.{pointwise, slice_cmp, nat_list_eq_equiv};
-ghost use Rattle.std.specs.Cmp.Lexicographic.{nat_list_cmp_total, texts_po, texts_ties};
-ghost use Rattle.std.specs.Ordering.{nat_cmp};
+ghost use Rattle.std.specs.Prelude.{◌≡◌, ◌⊎◌, ◌≤◌, ℕ, IfOk, IfErr, IfNone, IfSome, length};
 ghost use Rattle.px_base.specs.FirstPlace.{IsFirst};
 ghost use Rattle.px_base.specs.RepoPath.{IsBadByteAt, IsBadComponentAt, IsFirstBad, IsRepoPath};
 ghost use Rattle.px_base.specs.RepoPath.{begins, is_bad_component, is_over, is_path_byte};
 
-use crate::NameFault;
+use crate::{Bytes, NameFault};
 use std::alloc::{AllocError, Global};
-use std::cmp::Ordering;
-use std::fmt;
 use std::marker::Model;
 
 /// The greatest length of a repository's path, in bytes.
@@ -20,9 +14,9 @@ const MAX_BYTES: usize = 255;
 
 /// The path of a repository below its storage: 1 to 255 bytes of `A-Z a-z 0-9 . _ - @ + /`, in
 /// components with a `/` between each two. No component is empty, `.` or `..`.
-#[derive(Drop)]
+#[derive(Drop, Debug, PartialEq, Eq, PartialOrd, Ord)]
 pub struct RepoPath {
-    bytes: Vec<u8>,
+    bytes: Bytes,
 }
 
 impl Model for RepoPath {
@@ -31,9 +25,11 @@ impl Model for RepoPath {
 
     ghost Value = { List ℕ };
 
-    ghost view = { λ p. p.bytes.items };
+    ghost view = { λ p. p.bytes };
 
-    ghost invariant = { λ p. IsRepoPath p.bytes.items };
+    ghost inverse = { λ bytes. record { bytes = bytes } };
+
+    ghost invariant = { λ p. IsRepoPath p.bytes };
 }
 
 impl RepoPath {
@@ -50,7 +46,7 @@ impl RepoPath {
         if let Some(at) = first_bad_component(text) {
             return Err(NameFault::BadName { at });
         }
-        match Vec::from_slice(alloc, text) {
+        match Bytes::from_slice(alloc, text) {
             Ok(bytes) => Ok(RepoPath { bytes }),
             Err(_) => Err(NameFault::Memory),
         }
@@ -60,7 +56,7 @@ impl RepoPath {
     pub fn copy(&self, alloc: Global) -> Result<RepoPath, AllocError>
         ensures { IfOk result (λ copied. copied ≡ self.now) }
     {
-        let bytes = Vec::from_slice(alloc, &self.bytes)?;
+        let bytes = Bytes::from_slice(alloc, self.as_bytes())?;
         Ok(RepoPath { bytes })
     }
 
@@ -69,51 +65,7 @@ impl RepoPath {
         ensures value { result.now ≡ self.now }
         ensures path { IsRepoPath self.now }
     {
-        &self.bytes
-    }
-}
-
-impl fmt::Debug for RepoPath {
-    fn fmt<W: fmt::Write>(&self, f: &mut fmt::Formatter<W>) -> fmt::Result {
-        fmt::Debug::fmt(self.as_bytes(), f)
-    }
-}
-
-impl PartialEq for RepoPath {
-    ghost eq = { pointwise nat_eq };
-
-    ghost laws = { partial_equiv_from_equiv nat_list_eq_equiv };
-
-    fn eq(&self, other: &RepoPath) -> bool {
-        self.as_bytes() == other.as_bytes()
-    }
-}
-
-impl Eq for RepoPath {
-    ghost laws = { nat_list_eq_equiv };
-}
-
-impl PartialOrd for RepoPath {
-    ghost partial_cmp = { λ a b. Some (slice_cmp nat_cmp a b) };
-
-    ghost laws = { texts_po };
-
-    fn partial_cmp(&self, other: &RepoPath) -> Option<Ordering> {
-        Some(self.cmp(other))
-    }
-}
-
-impl Ord for RepoPath {
-    ghost cmp = { slice_cmp nat_cmp };
-
-    ghost total = { nat_list_cmp_total };
-
-    ghost matches_partial_cmp = { λ a b. refl };
-
-    ghost matches_eq = { texts_ties };
-
-    fn cmp(&self, other: &RepoPath) -> Ordering {
-        self.as_bytes().cmp(other.as_bytes())
+        self.bytes.as_slice()
     }
 }
 

@@ -30,13 +30,13 @@ impl Model for StorageName {
     ghost inverse_ok = { padded-take };
 }
 
-/// Why a text is no name.
+/// Why a text is no name, or no path.
 #[derive(Clone, Copy, Debug, PartialEq, Eq)]
 pub enum NameFault {
     /// The text is no name of its kind.
     BadName {
-        /// The place of the first bad byte, from 0: one that may not stand in the name, or one at its greatest length;
-        /// the length of the text where it is too short.
+        /// The first bad place, from 0: that of a byte that may not stand there or lies past the
+        /// greatest length, or the length of the text where it may not end there.
         at: usize,
     },
     /// Memory wanted. A name that lies in a fixed array never answers this.

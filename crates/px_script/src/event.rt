@@ -9,7 +9,7 @@ pub enum Event {
     Open {
         /// The weight that decides.
         threshold: u64,
-        /// How many rounds the transaction has. One of 1 to 8 is lawful.
+        /// How many rounds the transaction is to have. From 1 to 8 are lawful.
         rounds: u32,
         /// Who may vote, in the order of the line. There may be none, and one name may stand twice.
         voters: Items<Voter>,

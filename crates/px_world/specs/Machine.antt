@@ -7,6 +7,7 @@ use Rattle.px_script.specs.declared.event.Event.{Event}
 use Rattle.px_script.specs.declared.event.Event.TheVariants.{Open, Cast, Withdraw, Cancel, Stop, Close, Collect, Outcome}
 use Rattle.px_shell.specs.Machine.{Machine as MachineOf}
 use Rattle.txmanager.specs.Registry.{answer_at, are_lawful_rounds, transaction_at, with_changed, with_registered, without_transaction}
+use Rattle.txmanager.specs.VoterCalls as by
 use Rattle.txmanager.specs.Voting as on
 use Rattle.voters.specs.Panel.{panel_refusal}
 use Rattle.voters.specs.declared.panel.PanelRefusal.{PanelRefusal}
@@ -66,9 +67,9 @@ abbrev pub reply_of : State → Event → Reply
 reply_of state (Open threshold rounds voters) =
     opening state (open_refusal state rounds (panel_refusal voters threshold))
 reply_of state (Cast tx voter phase hash) =
-    counted (answer_at (transaction_at state.transactions tx) tx (on.cast_answer voter phase hash))
+    counted (answer_at (transaction_at state.transactions tx) tx (by.cast_answer voter phase hash))
 reply_of state (Withdraw tx voter) =
-    done (answer_at (transaction_at state.transactions tx) tx (on.cancel_voter_answer voter))
+    done (answer_at (transaction_at state.transactions tx) tx (by.cancel_voter_answer voter))
 reply_of state (Cancel tx) = done (answer_at (transaction_at state.transactions tx) tx on.done)
 reply_of state (Stop tx) = done (answer_at (transaction_at state.transactions tx) tx on.stop_answer)
 reply_of state (Close tx) = done (answer_at (transaction_at state.transactions tx) tx on.done)
@@ -89,8 +90,8 @@ abbrev pub next_state : State → Event → State
 next_state state (Open threshold rounds voters) =
     with_opened (open_refusal state rounds (panel_refusal voters threshold)) state
     threshold rounds voters
-next_state state (Cast tx voter phase hash) = with_tx state tx (on.after_cast voter phase hash)
-next_state state (Withdraw tx voter) = with_tx state tx (on.after_cancel_voter voter)
+next_state state (Cast tx voter phase hash) = with_tx state tx (by.after_cast voter phase hash)
+next_state state (Withdraw tx voter) = with_tx state tx (by.after_cancel_voter voter)
 next_state state (Cancel tx) = with_tx state tx on.after_cancel
 next_state state (Stop tx) = with_tx state tx on.after_stop
 next_state state (Close tx) = record {

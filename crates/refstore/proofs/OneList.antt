@@ -1,9 +1,9 @@
 -- The hook text determines the list of updates.
-use Rattle.std.proofs.Common.{◌≡◌, ◌≢◌, ℕ, ◌+◌, ◌<◌, ◌≤◌, List, [], ◌∷◌, ◌++◌, Bool, true, false, ◌||◌, Option, Some, arith, ap, sym, ◌∙◌, refl, zero, suc, length, slice_get, take, append_assoc}
+use Rattle.std.proofs.Common.{◌≡◌, ◌≢◌, ℕ, ◌+◌, List, [], ◌∷◌, ◌++◌, Bool, true, false, ◌||◌, Some, arith, ap, sym, ◌∙◌, refl, suc, length, slice_get, take, append_assoc}
 use Rattle.std.specs.List.{AllByRecursion}
 use Rattle.std.proofs.lemmas.Option.{slice_get_within}
 use Rattle.px_base.specs.Hash.{IsHash, hash_of, hash_text}
-use Rattle.px_base.specs.RefName.{IsBadAt, IsRefName, follows_badly, is_bad_place, is_forbidden, is_misplaced}
+use Rattle.px_base.specs.RefName.{IsBadAt, IsRefName, follows_badly, is_misplaced}
 use Rattle.px_base.specs.declared.hash.Hash.{Hash}
 use Rattle.px_base.specs.declared.push.Update.{Update}
 use Rattle.px_base.proofs.HexText.{hash_of-hash_text, text_is_lawful}

@@ -15,7 +15,8 @@ use Rattle.voters.specs.declared.voter_result.VoterResult.{VoterResult}
 use Rattle.voters.proofs.StepLemmas.{changed_at-set}
 use Rattle.txmanager.specs.Chain.{IsChain, IsRounds}
 use Rattle.txmanager.specs.Rounds.{TxAct, Cast, CancelVoter, after_act, current}
-use Rattle.txmanager.specs.Voting.{cancel_in_current, cancel_in_sub, cast_in_current, cast_in_sub, counted, numbered, of_cast, phase_of, phase_refusal, unless_err, unless_refused}
+use Rattle.txmanager.specs.VoterCalls.{cancel_in_current, cancel_in_sub, cast_in_current, cast_in_sub, numbered, of_cast, phase_of, phase_refusal, unless_refused}
+use Rattle.txmanager.specs.Voting.{counted, unless_err}
 use Rattle.txmanager.specs.declared.refusal.TxRefusal.{TxRefusal}
 use Rattle.txmanager.proofs.ActLemmas.{acted_step}
 use Rattle.txmanager.proofs.CarryLemmas.{rounds_kept}
@@ -37,11 +38,6 @@ cast_counted name voter hash votes new r refused led value =
     counted_by (cast_refusal votes voter) name r (result_at (after votes (act.Cast voter hash)) voter) refused
     (λ none. ap (λ (v : Votes). result_at v voter) (sym (led none)) ∙ sym (value none))
 
--- the subtransaction at a place
-
-pub there_at : (subs : List Votes) (at : ℕ) (d : Votes) → at < length subs → slice_get subs at ≡ Some (get_or subs at d)
-there_at subs at d lt = slice_get-get_or subs at d lt
-
 -- what one subtransaction leaves, in its place
 pub set_unless : {A : Type 0} (result : Result A TxRefusal) (subs : List Votes) (at : ℕ) (old new : Votes) (f : Votes → Votes)
     → slice_get subs at ≡ Some old → old ≡ get_or subs at old → new ≡ unless_err result old (f old)
@@ -57,7 +53,7 @@ pub in_current : (name : List ℕ) (phase : Phase) (voter : ℕ) (hash : Hash) (
     → numbered (at + 1) result ≡ cast_in_current name phase voter hash (current voter subs) (slice_get subs (current voter subs))
 in_current name phase voter hash subs at result is lt due answer =
     let d : Votes = record { threshold = 0; marks = []; outcome = Open } in
-    let there : slice_get subs at ≡ Some (get_or subs at d) = there_at subs at d lt in
+    let there : slice_get subs at ≡ Some (get_or subs at d) = slice_get-get_or subs at d lt in
     let here : numbered (at + 1) result ≡ cast_in_current name phase voter hash at (slice_get subs at) =
     rw (there, due) (ap (numbered (at + 1)) (answer (get_or subs at d) there)) in
     here ∙ ap (λ (n : ℕ). cast_in_current name phase voter hash n (slice_get subs n)) is
@@ -68,7 +64,7 @@ pub canceled_in_current : (name : List ℕ) (voter : ℕ) (subs : List Votes) (a
     → result ≡ cancel_in_current name voter (slice_get subs (current voter subs))
 canceled_in_current name voter subs at result is lt answer =
     let d : Votes = record { threshold = 0; marks = []; outcome = Open } in
-    let there : slice_get subs at ≡ Some (get_or subs at d) = there_at subs at d lt in
+    let there : slice_get subs at ≡ Some (get_or subs at d) = slice_get-get_or subs at d lt in
     let here : result ≡ cancel_in_current name voter (slice_get subs at) = rw there (answer (get_or subs at d) there) in
     here ∙ ap (λ (n : ℕ). cancel_in_current name voter (slice_get subs n)) is
 

@@ -1,18 +1,18 @@
 -- What holds of a subtransaction holds after every longer list of acts.
-use Rattle.std.proofs.Common.{◌≡◌, ℕ, ◌≤◌, List, [], ◌∷◌, ◌++◌, Bool, true, Option, Some, None, arith, ap, sym, ◌∙◌, inl, inr, refl, slice_get, zero, suc}
+use Rattle.std.proofs.Common.{◌≡◌, ℕ, ◌≤◌, ◌<◌, List, [], ◌∷◌, ◌++◌, Bool, true, Option, Some, None, arith, ap, sym, ◌∙◌, inl, inr, refl, slice_get, zero, suc}
 use Rattle.std.specs.List.{AllByRecursion}
 use Rattle.std.specs.Option.{option_map}
 use Rattle.std.proofs.lemmas.Bool.{cases_Bool}
 use Rattle.px_base.specs.declared.hash.Hash.{Hash}
 use Rattle.voters.specs.Marks.{standing_weight}
-use Rattle.voters.specs.Results.{committed_in}
+use Rattle.voters.specs.Results.{committed_in, voted_in}
 use Rattle.voters.specs.Rule.{IsPoll}
 use Rattle.voters.specs.Sub.{IsSound}
 use Rattle.voters.specs.Votes.{Poll, Votes}
 use Rattle.voters.specs.declared.outcome.Outcome.{Outcome}
 use Rattle.voters.specs.declared.outcome.Outcome.TheVariants.{Open, Commit}
 use Rattle.voters.proofs.KeepLemmas.{Keeps}
-use Rattle.txmanager.specs.Chain.{IsChain}
+use Rattle.txmanager.specs.Chain.{Follows, IsChain}
 use Rattle.txmanager.specs.Readings.{committed_at, outcome_in}
 use Rattle.txmanager.specs.Rounds.{TxAct, after_acts, current, opened}
 use Rattle.txmanager.proofs.CarryLemmas.{acts_step, after_acts-append, opened_chain}
@@ -76,17 +76,18 @@ opened_threshold : (poll : Poll) (n : ℕ) → AllByRecursion (λ x. x.threshold
 opened_threshold poll zero = tt
 opened_threshold poll (suc n) = (refl, opened_threshold poll n)
 
-threshold_at : (xs : List Votes) (i t : ℕ) (a : Votes) → AllByRecursion (λ x. x.threshold ≡ t) xs → slice_get xs i ≡ Some a → a.threshold ≡ t
-threshold_at [] i t a all there = absurd (cc)
-threshold_at (x ∷ xs) zero t a all there = (let e : x ≡ a = cc in rw (← e) all.0)
-threshold_at (x ∷ xs) (suc i) t a all there = threshold_at xs i t a all.1 there
+-- what holds of each holds of the one in a place
+all_at : (holds : Votes → Type 0) (xs : List Votes) (i : ℕ) (a : Votes) → AllByRecursion holds xs → slice_get xs i ≡ Some a → holds a
+all_at holds [] i a all there = absurd (cc)
+all_at holds (x ∷ xs) zero a all there = (let e : x ≡ a = cc in rw (← e) all.0)
+all_at holds (x ∷ xs) (suc i) a all there = all_at holds xs i a all.1 there
 
 -- a committed hash has the threshold's weight
 pub quorum_at : (poll : Poll) (n i : ℕ) (acts : List TxAct) (h : Hash) (sub : Votes) → IsPoll poll → slice_get (after_acts acts (opened poll n)) i ≡ Some sub → sub.outcome ≡ Commit h → poll.threshold ≤ standing_weight h sub.marks
 quorum_at poll n i acts h sub is there o =
     let ys = after_acts acts (opened poll n) in
     let s : Step (opened poll n) ys = acts_step acts (opened poll n) (opened_chain poll n is) in
-    let t : sub.threshold ≡ poll.threshold = threshold_at ys i poll.threshold sub (thresholds (opened poll n) ys poll.threshold s.keeps (opened_threshold poll n)) there in
+    let t : sub.threshold ≡ poll.threshold = all_at (λ x. x.threshold ≡ poll.threshold) ys i sub (thresholds (opened poll n) ys poll.threshold s.keeps (opened_threshold poll n)) there in
     omega (arith, t, (chain_at ys i sub s.chain there).leads h o)
 
 pub named : (poll : Poll) (n i : ℕ) (acts more : List TxAct) (h : Hash) (sub : Votes) → IsPoll poll → outcome_in i (after_acts acts (opened poll n)) ≡ Some (Commit h) → slice_get (after_acts (acts ++ more) (opened poll n)) i ≡ Some sub → poll.threshold ≤ standing_weight h sub.marks
@@ -94,6 +95,19 @@ named poll n i acts more h sub is e there =
     let later : outcome_in i (after_acts (acts ++ more) (opened poll n)) ≡ Some (Commit h) = keeps_outcome poll n i acts more (Commit h) is (λ f. absurd (cc)) e in
     let is_h : Some sub.outcome ≡ Some (Commit h) = rw there at later in
     quorum_at poll n i (acts ++ more) h sub is there (cc)
+
+-- a voter votes in one after the other
+follows_at : (xs : List Votes) (i j : ℕ) (a b : Votes) → IsChain xs → i < j → slice_get xs i ≡ Some a → slice_get xs j ≡ Some b → Follows a b
+follows_at [] i j a b is lt there next = absurd (cc)
+follows_at (x ∷ xs) i zero a b is lt there next = absurd (omega (arith, lt))
+follows_at (x ∷ xs) zero (suc j) a b is lt there next =
+    let e : x ≡ a = cc in
+    rw (← e) (all_at (λ next. Follows x next) xs j b is.1 next)
+follows_at (x ∷ xs) (suc i) (suc j) a b is lt there next = follows_at xs i j a b is.2 (omega (arith, lt)) there next
+
+pub in_turn : (poll : Poll) (n i j v : ℕ) (acts : List TxAct) (sub later : Votes) → IsPoll poll → i < j → slice_get (after_acts acts (opened poll n)) i ≡ Some sub → slice_get (after_acts acts (opened poll n)) j ≡ Some later → voted_in v later ≡ true → committed_in v sub ≡ true
+in_turn poll n i j v acts sub later is lt there next voted =
+    follows_at (after_acts acts (opened poll n)) i j sub later (acts_step acts (opened poll n) (opened_chain poll n is)).chain lt there next v voted
 
 -- a voter's current subtransaction
 current_kept : (xs ys : List Votes) (v : ℕ) → KeepEach xs ys → current v xs ≤ current v ys

@@ -1,6 +1,7 @@
 -- The carrying over cancels none but those that are out.
-use Rattle.std.proofs.Common.{◌≡◌, ℕ, ◌+◌, List, [], ◌∷◌, Bool, true, false, Some, arith, ap, sym, ◌∙◌, inl, inr, refl, slice_get, zero, suc, map, ◌||◌, ◌⊎◌, length}
+use Rattle.std.proofs.Common.{◌≡◌, ℕ, ◌+◌, List, [], ◌∷◌, true, Some, arith, ap, sym, ◌∙◌, inl, inr, refl, slice_get, zero, suc, map, ◌||◌, ◌⊎◌, length}
 use Rattle.std.specs.List.{list_any}
+use Rattle.std.proofs.Math.Bool.{or-true}
 use Rattle.std.proofs.lemmas.Bool.{cases_Bool, false≢true}
 use Rattle.voters.specs.Marks.{canceling}
 use Rattle.voters.specs.Refusals.{is_stopped}
@@ -25,21 +26,14 @@ canceled_without v w x e =
       | inr f ↦ canceled_at v w x.marks (rw f at e)
     ]
 
-or_left : (a b : Bool) → a ≡ true → (a || b) ≡ true
-or_left a b e = rw e refl
-
-or_right : (a b : Bool) → b ≡ true → (a || b) ≡ true
-or_right true b e = refl
-or_right false b e = e
-
 canceled_without_all : (v : ℕ) (ws : List ℕ) (x : Votes) → is_canceled (slice_get (without_all ws x).marks v) ≡ true → (is_canceled (slice_get x.marks v) ≡ true) ⊎ (list_any (same_index v) ws ≡ true)
 canceled_without_all v [] x e = inl e
 canceled_without_all v (w ∷ ws) x e =
     elim (canceled_without_all v ws (without w x) e) [
-      | inr t ↦ inr (or_right (same_index v w) (list_any (same_index v) ws) t)
+      | inr t ↦ inr (rw t (or-true (same_index v w)))
       | inl c ↦ elim (canceled_without v w x c) [
         | inl d ↦ inl d
-        | inr t ↦ inr (or_left (same_index v w) (list_any (same_index v) ws) t)
+        | inr t ↦ inr (rw t refl)
       ]
     ]
 

@@ -2,4 +2,5 @@ pub mod Chain
 pub mod Readings
 pub mod Registry
 pub mod Rounds
+pub mod VoterCalls
 pub mod Voting

@@ -1,7 +1,8 @@
 //! Who is out of a subtransaction is canceled in each later one.
 
 ghost use Rattle.std.specs.Prelude.{◌≡◌, ◌∷◌, false, length, map};
-ghost use Rattle.txmanager.specs.Chain.{Follows, IsChain};
+ghost use Rattle.std.specs.List.{AllByRecursion};
+ghost use Rattle.txmanager.specs.Chain.{IsChain};
 ghost use Rattle.txmanager.specs.Readings.{is_out_at};
 ghost use Rattle.txmanager.specs.Rounds.{carried, carried_over, out_of, without, without_all};
 ghost use Rattle.voters.specs.Results.{result_at, voted_in};
@@ -26,15 +27,13 @@ fn take_out(sub: &mut Sub, voter: u32)
     let _ = sub.cancel(voter);
 }
 
-// Cancels in the later one who is out of the earlier one.
-fn carry_into(earlier: &Sub, later: &mut Sub)
-    requires { Follows earlier.now later.old }
-    ensures { later.new ≡ without_all (out_of earlier.now) later.old }
+// Cancels the voter in each of them.
+fn take_out_of_each(later: &mut [Sub], voter: u32)
+    requires { AllByRecursion (λ next. voted_in voter next ≡ false) later.old }
+    ensures { later.new ≡ map (without voter) later.old }
 {
-    for voter in 0..earlier.len() {
-        if is_out(earlier, voter) {
-            take_out(later, voter);
-        }
+    for next in later.iter_mut() {
+        take_out(next, voter);
     }
 }
 
@@ -43,8 +42,10 @@ fn carry_into_each(earlier: &Sub, later: &mut [Sub])
     requires { IsChain (earlier.now ∷ later.old) }
     ensures { later.new ≡ map (without_all (out_of earlier.now)) later.old }
 {
-    for next in later.iter_mut() {
-        carry_into(earlier, next);
+    for voter in 0..earlier.len() {
+        if is_out(earlier, voter) {
+            take_out_of_each(later, voter);
+        }
     }
 }
 

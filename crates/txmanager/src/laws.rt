@@ -9,7 +9,7 @@ ghost use Rattle.txmanager.specs.Registry.{Registry, transaction_at, with_change
 ghost use Rattle.txmanager.specs.Rounds.{TxAct, after_act, after_acts, carried, current, opened, stopped};
 ghost use Rattle.txmanager.specs.Voting.{Voting};
 ghost use Rattle.voters.specs.Marks.{standing_weight};
-ghost use Rattle.voters.specs.Results.{result_at};
+ghost use Rattle.voters.specs.Results.{committed_in, result_at, voted_in};
 ghost use Rattle.voters.specs.Rule.{IsPoll};
 ghost use Rattle.voters.specs.Votes.{Poll, Votes, after};
 ghost use Rattle.voters.specs.declared.act.Act.{Act};
@@ -45,6 +45,16 @@ pub fn the_current_one_never_moves_back()
     ensures { (poll : Poll) (n voter : ℕ) (acts more : List TxAct) → IsPoll poll
         → current voter (after_acts acts (opened poll n))
         ≤ current voter (after_acts (acts ++ more) (opened poll n)) }
+{}
+
+/// Whoever voted in a subtransaction is committed in each earlier one: the rounds are gone through
+/// in their order.
+pub fn who_votes_is_committed_in_each_earlier_one()
+    ensures { (poll : Poll) (n i j voter : ℕ) (acts : List TxAct) (sub later : Votes)
+        → IsPoll poll → i < j
+        → slice_get (after_acts acts (opened poll n)) i ≡ Some sub
+        → slice_get (after_acts acts (opened poll n)) j ≡ Some later
+        → voted_in voter later ≡ true → committed_in voter sub ≡ true }
 {}
 
 /// After each act, a voter that failed, was canceled or was stopped in a subtransaction has a cancel

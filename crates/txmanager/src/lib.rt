@@ -14,6 +14,7 @@ pub use laws::{
     each_subtransaction_keeps_its_outcome, only_who_is_out_is_canceled, other_transactions_stay,
     the_carrying_over_leaves_the_current_one, the_current_one_never_moves_back,
     who_is_committed_stays_committed, who_is_out_is_canceled_in_each_later_one,
+    who_votes_is_committed_in_each_earlier_one,
 };
 pub use manager::{Manager, are_lawful_rounds};
 pub use refusal::{RegisterRefusal, TxRefusal};

@@ -3,9 +3,8 @@
 ghost use Rattle.std.specs.Prelude.{◌≡◌, [], None, IfSome, IfNone, MatchResult};
 ghost use Rattle.txmanager.specs.Registry.{answer_at, are_lawful_rounds, rounds_refusal, transaction_at};
 ghost use Rattle.txmanager.specs.Registry.{with_changed, with_registered, without_transaction};
-ghost use Rattle.txmanager.specs.Voting.{after_cancel, after_cancel_voter, after_cast, after_stop};
-ghost use Rattle.txmanager.specs.Voting.{cancel_voter_answer, cast_answer, collect_answer, done};
-ghost use Rattle.txmanager.specs.Voting.{outcome_answer, stop_answer, voting_on};
+ghost use Rattle.txmanager.specs.VoterCalls.{after_cancel_voter, after_cast, cancel_voter_answer, cast_answer};
+ghost use Rattle.txmanager.specs.Voting.{after_cancel, after_stop, collect_answer, done, outcome_answer, stop_answer, voting_on};
 
 use crate::refusal::{RegisterRefusal, TxRefusal};
 use crate::transaction::Transaction;

@@ -4,7 +4,8 @@ ghost use Rattle.std.specs.Prelude.{◌≡◌, ◌<◌, Some, length, map, slice
 ghost use Rattle.std.specs.List.{list_any};
 ghost use Rattle.txmanager.specs.Chain.{IsChain, IsRounds};
 ghost use Rattle.txmanager.specs.Rounds.{TxAct, after_act, current, stopped};
-ghost use Rattle.txmanager.specs.Voting.{can_stop, cancel_answer_by, cancel_in_sub, cast_answer_by, cast_in_sub, of_cancel, of_cast, phase_of, phase_refusal, unless_err};
+ghost use Rattle.txmanager.specs.VoterCalls.{cancel_answer_by, cancel_in_sub, cast_answer_by, cast_in_sub, of_cancel, of_cast, phase_of, phase_refusal};
+ghost use Rattle.txmanager.specs.Voting.{can_stop, unless_err};
 ghost use Rattle.voters.specs.Calls.{all_canceled};
 ghost use Rattle.voters.specs.Results.{committed_in};
 ghost use Rattle.voters.specs.Votes.{Votes, after, changed_at};
@@ -140,13 +141,9 @@ pub fn cast_in(
     if let Some(refusal) = refused_phase(phase, due_at(at)) {
         return Err(refusal);
     }
-    match cast_at(subs, at, name, voter, hash) {
-        Ok(counted) => {
-            carry(subs);
-            Ok((at as u32 + 1, counted))
-        }
-        Err(refusal) => Err(refusal),
-    }
+    let counted = cast_at(subs, at, name, voter, hash)?;
+    carry(subs);
+    Ok((at as u32 + 1, counted))
 }
 
 // A cancel in one subtransaction.
@@ -188,13 +185,9 @@ pub fn cancel_in(subs: &mut Vec<Sub>, name: &StorageName, voter: u32) -> Result<
     if at >= subs.len() {
         return Err(TxRefusal::Finished);
     }
-    match cancel_at(subs, at, name, voter) {
-        Ok(()) => {
-            carry(subs);
-            Ok(())
-        }
-        Err(refusal) => Err(refusal),
-    }
+    cancel_at(subs, at, name, voter)?;
+    carry(subs);
+    Ok(())
 }
 
 fn stop_open(sub: &mut Sub)

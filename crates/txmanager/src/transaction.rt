@@ -3,9 +3,8 @@
 ghost use Rattle.std.specs.Prelude.{◌≡◌, ◌≤◌, IfOk};
 ghost use Rattle.std.specs.Option.{option_copied};
 ghost use Rattle.txmanager.specs.Rounds.{opened};
-ghost use Rattle.txmanager.specs.Voting.{after_cancel, after_cancel_voter, after_cast, after_stop};
-ghost use Rattle.txmanager.specs.Voting.{cancel_voter_answer, cast_answer, collect_answer};
-ghost use Rattle.txmanager.specs.Voting.{number_of, outcome_answer, stop_answer, sub_at, voting_on};
+ghost use Rattle.txmanager.specs.VoterCalls.{after_cancel_voter, after_cast, cancel_voter_answer, cast_answer};
+ghost use Rattle.txmanager.specs.Voting.{after_cancel, after_stop, collect_answer, number_of, outcome_answer, stop_answer, sub_at, voting_on};
 
 use crate::refusal::TxRefusal;
 use crate::subs::{any_open, cancel_everywhere, cancel_in, cast_in, stop_in};

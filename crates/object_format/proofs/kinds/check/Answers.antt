@@ -2,8 +2,7 @@
 use Rattle.std.proofs.Common.{◌≡◌, ℕ, ap, sym, length, List, Some, None, Result, Ok, Err}
 use Rattle.std.specs.Result.{result_err}
 use Rattle.px_base.specs.declared.hash.Hash.{Hash}
-use Rattle.object_format.specs.Links.{bad_byte, place_of}
-use Rattle.object_format.specs.Reading.{links_at}
+use Rattle.object_format.specs.Links.{bad_byte, links_at, place_of}
 use Rattle.object_format.proofs.Contents.{left_within}
 use Rattle.object_format.proofs.kinds.check.Goals as goal
 

@@ -2,8 +2,7 @@
 use Rattle.std.proofs.Common.{◌-◌, ap, sym, length, refl, inr, [], List, Result, ℕ}
 use Rattle.std.specs.Result.{result_unwrap_or}
 use Rattle.px_base.specs.declared.hash.Hash.{Hash}
-use Rattle.object_format.specs.Links.{bad_byte, links_of, place_of}
-use Rattle.object_format.specs.Reading.{links_at}
+use Rattle.object_format.specs.Links.{bad_byte, links_at, links_of, place_of}
 use Rattle.object_format.proofs.Contents.{left_within}
 use Rattle.object_format.proofs.Loops.{left_found}
 use Rattle.object_format.proofs.kinds.links.Goals as goal

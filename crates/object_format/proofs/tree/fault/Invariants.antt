@@ -1,7 +1,7 @@
 -- What is left breaks the form where the content does.
 use Rattle.std.proofs.Common.{◌≡◌, length}
 use Rattle.std.specs.Result.{result_err}
-use Rattle.object_format.specs.Reading.{tree_of}
+use Rattle.object_format.specs.TreeReading.{tree_of}
 use Rattle.object_format.proofs.tree.fault.Given as goal
 
 abbrev pub invariant-loop-rest : goal.invariant-loop-rest

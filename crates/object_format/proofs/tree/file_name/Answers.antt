@@ -1,7 +1,7 @@
 -- A NUL ends the name where one byte stands before it.
 use Rattle.std.proofs.Common.{arith, ◌≡◌, ◌==◌, ◌∙◌, ap, sym, get_or, not, true}
 use Rattle.std.proofs.lemmas.Bool.{and_from, and_parts, eq-eqb, eqb-true, false_from_ne_true, lt-ltb, ltb-true}
-use Rattle.object_format.specs.Reading.{in_file_name}
+use Rattle.object_format.specs.TreeReading.{in_file_name}
 use Rattle.object_format.proofs.Turns.{until_ends, until_more, until_none, until_stops}
 use Rattle.object_format.proofs.tree.file_name.Goals as goal
 

@@ -1,6 +1,6 @@
 -- The bytes of the name so far stand before what is still read.
 use Rattle.std.proofs.Common.{◌≡◌, drop, take}
-use Rattle.object_format.specs.Reading.{file_name_at, in_file_name, until_at}
+use Rattle.object_format.specs.TreeReading.{file_name_at, in_file_name, until_at}
 use Rattle.object_format.proofs.Turns.{with_front}
 use Rattle.object_format.proofs.tree.file_name.Given as goal
 

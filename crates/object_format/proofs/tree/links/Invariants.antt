@@ -1,6 +1,7 @@
 -- The links so far stand before those of what is left.
 use Rattle.std.proofs.Common.{◌≡◌, ◌++◌, length, Ok}
-use Rattle.object_format.specs.Reading.{and_then, tree_of}
+use Rattle.object_format.specs.Reading.{and_then}
+use Rattle.object_format.specs.TreeReading.{tree_of}
 use Rattle.object_format.proofs.tree.links.Given as goal
 
 abbrev pub invariant-loop-rest : goal.invariant-loop-rest

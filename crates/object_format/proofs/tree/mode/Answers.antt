@@ -1,7 +1,7 @@
 -- A space ends the mode where one to six digits stand before it.
 use Rattle.std.proofs.Common.{arith, ◌≡◌, ◌==◌, ◌&&◌, ◌∙◌, sym, get_or, nat_lt, false}
 use Rattle.std.proofs.lemmas.Bool.{and_from, and_parts, eq-eqb, eqb-true, false_from_ne_true, lt-ltb, ltb-true}
-use Rattle.object_format.specs.Reading.{in_mode}
+use Rattle.object_format.specs.TreeReading.{in_mode}
 use Rattle.object_format.proofs.Turns.{until_ends, until_more, until_none, until_stops}
 use Rattle.object_format.proofs.tree.mode.Goals as goal
 use Rattle.object_format.proofs.tree.mode.Goals.{else-byte-eq32-via-else-byte-eq32, else-byte-eq32-via-then-byte-eq32+else-place-gt0}

@@ -1,6 +1,6 @@
 -- The digits so far stand before what is still read.
 use Rattle.std.proofs.Common.{◌≡◌, drop, take}
-use Rattle.object_format.specs.Reading.{in_mode, mode_at, until_at}
+use Rattle.object_format.specs.TreeReading.{in_mode, mode_at, until_at}
 use Rattle.object_format.proofs.Turns.{with_front}
 use Rattle.object_format.proofs.tree.mode.Given as goal
 

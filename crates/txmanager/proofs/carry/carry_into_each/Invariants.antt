@@ -1,8 +1,8 @@
-use Rattle.std.proofs.Common.{◌≡◌, ◌++◌, map, take, drop}
-use Rattle.txmanager.specs.Rounds.{out_of, without_all}
+use Rattle.std.proofs.Common.{◌≡◌, map, take}
+use Rattle.txmanager.specs.Rounds.{out_from, without_all}
 use Rattle.txmanager.proofs.carry.carry_into_each.Given as goal
 
--- who is out is canceled in each one so far
-abbrev pub invariant-loop-next : goal.invariant-loop-next
-invariant-loop-next l =
-    l.later ≡ map (without_all (out_of l.earlier)) (take l.next-index l.initial.later) ++ drop l.next-index l.initial.later
+-- the voters so far that are out are canceled in each later one
+abbrev pub invariant-loop-voter : goal.invariant-loop-voter
+invariant-loop-voter l =
+    l.later ≡ map (without_all (out_from l.earlier 0 (take l.voter l.earlier.marks))) l.initial.later

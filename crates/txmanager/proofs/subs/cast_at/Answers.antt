@@ -1,9 +1,9 @@
 use Rattle.std.proofs.Common.{Some, ap, sym, ◌∙◌}
-use Rattle.std.proofs.lemmas.Option.{get_or_from_slice_get}
+use Rattle.std.proofs.lemmas.Option.{get_or_from_slice_get, slice_get-get_or}
 use Rattle.voters.specs.Votes.{Votes, after}
 use Rattle.voters.specs.declared.act.Act.TheVariants as act
-use Rattle.txmanager.specs.Voting.{cast_in_sub}
-use Rattle.txmanager.proofs.CallLemmas.{set_unless, there_at}
+use Rattle.txmanager.specs.VoterCalls.{cast_in_sub}
+use Rattle.txmanager.proofs.CallLemmas.{set_unless}
 use Rattle.txmanager.proofs.subs.cast_at.Goals as goal
 
 pub returns-clause-answer : goal.returns-clause-answer
@@ -14,5 +14,5 @@ returns-clause-answer c = λ votes there.
 pub returns-clause-state : goal.returns-clause-state
 returns-clause-state c =
     set_unless c.cast_sub.result c.args.subs.now.items c.args.at c.index_mut-sub.result.now c.cast_sub.new.sub (λ (votes : Votes). after votes (act.Cast c.args.voter c.args.hash.now))
-    (there_at c.args.subs.now.items c.args.at c.index_mut-sub.result.now c.requires ∙ ap (λ (votes : Votes). Some votes) (sym c.index_mut-sub.ensures.value))
+    (slice_get-get_or c.args.subs.now.items c.args.at c.index_mut-sub.result.now c.requires ∙ ap (λ (votes : Votes). Some votes) (sym c.index_mut-sub.ensures.value))
     c.index_mut-sub.ensures.value c.cast_sub.ensures.state

@@ -1,26 +1,18 @@
-use Rattle.std.proofs.Common.{ap, sym, ◌∙◌, arith, Ok, Err}
+use Rattle.std.proofs.Common.{ap, sym, ◌∙◌, arith, Ok}
 use Rattle.txmanager.specs.Rounds.{current}
-use Rattle.txmanager.specs.Voting.{phase_refusal}
+use Rattle.txmanager.specs.VoterCalls.{phase_refusal}
 use Rattle.txmanager.proofs.CallLemmas.{cast_chain, in_current}
 use Rattle.txmanager.proofs.subs.cast_in.Goals as goal
 
 pub carry-requires : goal.carry-requires
 carry-requires c =
     cast_chain c.args.subs.now.items c.cast_at.new.subs.items c.current_of-at.result c.args.voter c.args.hash.now c.requires.chain
-    (c.current_of-at.ensures ∙ ap (current c.args.voter) c.deref.ensures.value) c.in-Ok.ensures.state
+    (c.current_of-at.ensures ∙ ap (current c.args.voter) c.deref.ensures.value) c.in_ok-counted.ensures.state
 
-pub returns-in-Ok-clause-answer : goal.returns-in-Ok-clause-answer
-returns-in-Ok-clause-answer c =
-    in_current c.args.name.now c.args.phase c.args.voter c.args.hash.now c.args.subs.now.items c.current_of-at.result (Ok c.in-Ok.counted)
+pub returns-clause-answer : goal.returns-clause-answer
+returns-clause-answer c =
+    in_current c.args.name.now c.args.phase c.args.voter c.args.hash.now c.args.subs.now.items c.current_of-at.result (Ok c.in_ok-counted.counted)
     (c.current_of-at.ensures ∙ ap (current c.args.voter) c.deref.ensures.value)
     (omega (arith, c.if-at-len.false, c.len.ensures, c.args.subs.now.ok.0))
     (ap (phase_refusal c.args.phase) (sym c.due_at.ensures) ∙ sym c.refused_phase.ensures ∙ c.in_default.is)
-    c.in-Ok.ensures.answer
-
-pub returns-in-Err-clause-answer : goal.returns-in-Err-clause-answer
-returns-in-Err-clause-answer c =
-    in_current c.args.name.now c.args.phase c.args.voter c.args.hash.now c.args.subs.now.items c.current_of-at.result (Err c.in-Err.refusal)
-    (c.current_of-at.ensures ∙ ap (current c.args.voter) c.deref.ensures.value)
-    (omega (arith, c.if-at-len.false, c.len.ensures, c.args.subs.now.ok.0))
-    (ap (phase_refusal c.args.phase) (sym c.due_at.ensures) ∙ sym c.refused_phase.ensures ∙ c.in_default.is)
-    c.in-Err.ensures.answer
+    c.in_ok-counted.ensures.answer

@@ -1,3 +1,4 @@
 pub mod HashOrder
 pub mod HexText
+pub mod Lists
 pub mod Streams

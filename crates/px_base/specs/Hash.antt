@@ -1,5 +1,5 @@
 -- Hashes: their text, and when two are one.
-use Rattle.std.specs.Prelude.{◌≡◌, ◌&&◌, ◌||◌, nat_le, Bool, List, ℕ, length, if◌then◌else◌, Option, Some, None, Result, Ok, Err}
+use Rattle.std.specs.Prelude.{◌≡◌, ◌&&◌, ◌||◌, nat_le, Bool, List, ℕ, length, replicate, if◌then◌else◌, Option, Some, None, Result, Ok, Err}
 use Rattle.std.specs.Bool.{Decides}
 use Rattle.std.specs.List.{AllPass, list_all}
 use Rattle.std.specs.Str.{bytes_eq}
@@ -54,3 +54,10 @@ same_hash-Decides g h =
       λ t. ap (λ (b : List ℕ). let x : Hash = record { 0 = b } in x) (bytes.0 t),
       λ e. bytes.1 (ap (λ (x : Hash). x.0) e),
     )
+
+-- the zero name, 40 zeros: no object has it
+abbrev pub zero_hash : Hash
+zero_hash = record { 0 = replicate 20 0 }
+
+abbrev pub is_zero : Hash → Bool
+is_zero hash = same_hash hash zero_hash

@@ -4,6 +4,8 @@ pub mod Hash
 pub mod Line
 pub mod Memory
 pub mod Object
+pub mod PathList
+pub mod RefList
 pub mod RefName
 pub mod RepoPath
 pub mod Sink

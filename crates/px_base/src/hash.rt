@@ -1,7 +1,7 @@
 //! SHA-1 digests, and their text.
 
 ghost use Rattle.std.specs.Prelude.{◌≡◌, ℕ, List, IfSome, IfNone};
-ghost use Rattle.px_base.specs.Hash.{hash_of, hash_text, is_hex_digit, IsHash, IsHashText};
+ghost use Rattle.px_base.specs.Hash.{hash_of, hash_text, is_hex_digit, is_zero, zero_hash, IsHash, IsHashText};
 
 /// A SHA-1 digest (FIPS 180-4). Votes, and the names of Git's objects, are such digests.
 #[derive(Clone, Copy, Debug, PartialEq, Eq, PartialOrd, Ord)]
@@ -19,6 +19,21 @@ pub fn is_hex_digit(byte: u8) -> bool
 }
 
 impl Hash {
+    /// The zero name, 40 zeros, which no object has. In an update it stands for no object
+    /// (githooks(5)).
+    pub fn zero() -> Hash
+        ensures { result ≡ zero_hash }
+    {
+        Hash([0; 20])
+    }
+
+    /// Whether it is the zero name.
+    pub fn is_zero(&self) -> bool
+        ensures { result ≡ is_zero self.now }
+    {
+        *self == Hash::zero()
+    }
+
     /// Reads 40 hexadecimal digits in lower case, which is how Git writes an object name. Takes no memory.
     pub fn read(text: &[u8]) -> Option<Hash>
         ensures value { IfSome result (λ hash. hash_text hash ≡ text.now) }

@@ -1,6 +1,7 @@
 //! A list that contracts see as the list of its items.
 
-ghost use Rattle.std.specs.Prelude.{◌≡◌, ◌↔◌, [], ◌∷◌, ◌++◌, length, Some, IfOk, IsTrue, OnOk, OnErr, nat_eq, refl};
+ghost use Rattle.std.specs.Prelude.{◌≡◌, ◌↔◌, [], ◌∷◌, ◌++◌, length, slice_get, Some, IfOk, IsTrue, OnOk, OnErr, nat_eq, refl};
+ghost use Rattle.std.specs.Option.{option_copied};
 ghost use Rattle.std.specs.Cmp.{partial_equiv_from_equiv};
 ghost use Rattle.std.specs.Cmp.Lexicographic.{pointwise, slice_cmp, nat_list_eq_equiv};
 ghost use Rattle.std.specs.Cmp.Lexicographic.{nat_list_cmp_total, texts_po, texts_ties};
@@ -59,6 +60,13 @@ impl<T> Items<T> {
         self.items.is_empty()
     }
 
+    /// The item at a place, from 0, or `None` past the end.
+    pub fn get(&self, at: usize) -> Option<&T>
+        ensures { option_copied result ≡ slice_get self.now at }
+    {
+        self.items.get(at)
+    }
+
     /// The items as a slice.
     pub fn as_slice(&self) -> &[T]
         ensures { result.now ≡ self.now }
@@ -90,6 +98,13 @@ impl<T: Copy> Items<T> {
     {
         let items = Vec::from_slice(alloc, items)?;
         Ok(Items { items })
+    }
+
+    /// A copy of the list.
+    pub fn copy(&self, alloc: Global) -> Result<Self, AllocError>
+        ensures { IfOk result (λ copied. copied ≡ self.now) }
+    {
+        Items::from_slice(alloc, self.as_slice())
     }
 
     /// Adds copies of these items at the end. Where memory wants, the list stays.

@@ -54,12 +54,28 @@ impl RefName {
         }
     }
 
+    /// The name that these bytes are, as the caller knows that they are one.
+    pub fn of(bytes: Bytes) -> RefName
+        requires { IsRefName bytes }
+        ensures { result ≡ bytes }
+    {
+        RefName { bytes }
+    }
+
     /// A copy of it.
     pub fn copy(&self, alloc: Global) -> Result<RefName, AllocError>
         ensures { IfOk result (λ copied. copied ≡ self.now) }
     {
         let bytes = Bytes::from_slice(alloc, self.as_bytes())?;
         Ok(RefName { bytes })
+    }
+
+    /// The list of its bytes, as the key of a map.
+    pub fn bytes(&self) -> &Bytes
+        ensures value { result.now ≡ self.now }
+        ensures name { IsRefName self.now }
+    {
+        &self.bytes
     }
 
     /// The bytes of the name.

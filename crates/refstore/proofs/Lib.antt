@@ -1,1 +1,9 @@
-pub mod OneList
+mod After
+mod Conflicts
+mod Least
+mod NamesMet
+mod Names
+mod OneList
+mod RefLists
+mod RefMaps
+mod Under

@@ -4,6 +4,8 @@
 #[cfg(test)]
 mod format;
 #[cfg(test)]
+mod prepared;
+#[cfg(test)]
 mod references;
 #[cfg(test)]
 mod store;

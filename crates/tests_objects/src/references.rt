@@ -1,6 +1,6 @@
 //! Names of references and paths, and the text and the vote of a push.
 
-use px_base::{Hash, NameFault, RefName, RepoPath, Update};
+use px_base::{Hash, Lease, NameFault, RefName, RepoPath, Update};
 use refstore::{hook_text, vote_of};
 use std::alloc::Global;
 use std::test::Fail;
@@ -80,6 +80,21 @@ fn a_repository_has_a_path_or_a_first_bad_place(rt: HostRuntime) {
             Err(NameFault::BadName { at }) => assert_eq!(rt; Some(at), want),
             Err(NameFault::Memory) => assert!(rt; false),
         }
+    }
+}
+
+#[test]
+fn a_lease_is_below_the_last_number(rt: HostRuntime) {
+    for (number, want) in [
+        (0, true),
+        (1, true),
+        (u64::MAX - 1, true),
+        (u64::MAX, false),
+    ] {
+        assert_eq!(rt;
+            Lease::new(number).is_some_and(|lease| lease.number() == number),
+            want
+        );
     }
 }
 

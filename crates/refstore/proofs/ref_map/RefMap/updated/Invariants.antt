@@ -1,0 +1,8 @@
+use Rattle.std.proofs.Common.{◌≡◌, drop}
+use Rattle.refstore.specs.Updates.{after}
+use Rattle.refstore.proofs.ref_map.RefMap.updated.Given as goal
+
+-- with what is left done as well, all is done
+abbrev pub invariant-loop-update : goal.invariant-loop-update
+invariant-loop-update l =
+    after l.made (drop l.update-index l.updates) ≡ after l.self l.updates

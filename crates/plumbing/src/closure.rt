@@ -2,14 +2,10 @@
 //! reachable from the last one is there, as many times as TURNS says. What a run takes with no turns
 //! is what the putting takes.
 
-use crate::end::End;
+use crate::end::{End, number};
 use objstore::{ClosedFault, PutFault, Store, name_of};
 use px_base::{Bytes, Kind, Object, ObjectId, Sink, WrittenEnd, write_all};
 use std::alloc::Global;
-
-fn number(word: &str) -> Result<u32, End> {
-    word.parse::<u32>().map_err(|_| End::Usage)
-}
 
 // Puts an object, and gives its name.
 fn put(alloc: Global, store: &mut Store, kind: Kind, content: &[u8]) -> Result<ObjectId, End> {

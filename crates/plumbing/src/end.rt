@@ -1,4 +1,4 @@
-//! Why a run did not end well.
+//! Why a run did not end well, and the numbers among its words.
 
 use std::alloc::AllocError;
 
@@ -33,7 +33,7 @@ impl End {
     pub fn message(self) -> &'static [u8] {
         match self {
             End::Usage =>
-                b"plumbing: usage: plumbing objects | hook | vote | hash N | chain N TURNS | wide N TURNS\n",
+                b"plumbing: usage: plumbing objects | hook | vote | hash N | WORD N TURNS, WORD being chain, wide, create or change\n",
             End::ReadFault => b"plumbing: read fault\n",
             End::WriteFault => b"plumbing: write fault\n",
             End::BadInput => b"plumbing: bad input\n",
@@ -46,4 +46,9 @@ impl From<AllocError> for End {
     fn from(_: AllocError) -> End {
         End::Memory
     }
+}
+
+/// The number that a word is.
+pub fn number(word: &str) -> Result<u32, End> {
+    word.parse::<u32>().map_err(|_| End::Usage)
 }

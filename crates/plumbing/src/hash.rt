@@ -1,7 +1,7 @@
 //! `hash N`: names an object of 8,000,000 bytes N times, and prints the last name. Each time its
 //! first byte is another, so that no two are one object.
 
-use crate::end::End;
+use crate::end::{End, number};
 use object_format::name_of;
 use px_base::{Bytes, Hash, Kind, Sink, WrittenEnd, write_all};
 use std::alloc::Global;
@@ -17,7 +17,7 @@ fn mark(content: &mut [u8], turn: u32) {
 
 /// Names blobs of 8,000,000 bytes, as many as the word says.
 pub fn hash<O: Sink>(alloc: Global, count: &str, out: &mut O) -> Result<(), End> {
-    let count = count.parse::<u32>().map_err(|_| End::Usage)?;
+    let count = number(count)?;
     let mut content = vec![in alloc; 0u8; CONTENT_BYTES]?;
     let mut name = Hash([0; 20]);
     for turn in 0..count {

@@ -4,7 +4,9 @@
 //! - `hook` and `vote` read a push, and print the text that Git's hook is given of it, or the vote;
 //! - `hash N` names an object of 8,000,000 bytes N times;
 //! - `chain N TURNS` and `wide N TURNS` put a chain of N commits, or a tree of N files, into a store,
-//!   and say TURNS times whether all that is reachable from the last one is there.
+//!   and say TURNS times whether all that is reachable from the last one is there;
+//! - `create N TURNS` and `change N TURNS` prepare N creations on no references, or one update
+//!   on N references, TURNS times.
 //!
 //! A word calls the crates, and has no rules of its own.
 #![tactic(auto)]
@@ -55,6 +57,12 @@ fn work<S: Source, O: Sink>(
         }
         [word, count, turns] if word.as_str() == "wide" => {
             closure::wide(alloc, count.as_str(), turns.as_str(), out)
+        }
+        [word, count, turns] if word.as_str() == "create" => {
+            references::create(alloc, count.as_str(), turns.as_str(), out)
+        }
+        [word, count, turns] if word.as_str() == "change" => {
+            references::change(alloc, count.as_str(), turns.as_str(), out)
         }
         _ => Err(End::Usage),
     }

@@ -1,12 +1,14 @@
 //! `hook` and `vote`: read a push, a line for each update as `OLD SP NEW SP NAME`, and print the text
-//! that Git's hook is given of it, or the vote on it.
+//! that Git's hook is given of it, or the vote on it. `create N TURNS` and `change N TURNS`: prepare
+//! N creations on no references, or one update on N references, and print how many there are then, as many
+//! times as TURNS says.
 
-use crate::end::End;
+use crate::end::{End, number};
 use px_base::{
     Bytes, Hash, LineEnd, NameFault, RefName, Sink, Source, Update, Updates, WrittenEnd, line,
     write_all,
 };
-use refstore::{hook_text, vote_of};
+use refstore::{Prepared, RefRefusal, Refs, hook_text, vote_of};
 use std::alloc::Global;
 
 /// More than the longest line of an update takes.
@@ -27,8 +29,13 @@ fn names_of(text: &[u8]) -> Option<(Hash, Hash, &[u8])> {
 
 fn update_of(alloc: Global, text: &[u8]) -> Result<Update, End> {
     let (old, new, name) = names_of(text).ok_or(End::BadInput)?;
-    match RefName::read(alloc, name) {
-        Ok(name) => Ok(Update { old, new, name }),
+    let name = name_of(alloc, name)?;
+    Ok(Update { old, new, name })
+}
+
+fn name_of(alloc: Global, text: &[u8]) -> Result<RefName, End> {
+    match RefName::read(alloc, text) {
+        Ok(name) => Ok(name),
         Err(NameFault::BadName { .. }) => Err(End::BadInput),
         Err(NameFault::Memory) => Err(End::Memory),
     }
@@ -69,4 +76,63 @@ pub fn vote<S: Source, O: Sink>(alloc: Global, input: &mut S, out: &mut O) -> Re
     let mut text = Bytes::from_slice(alloc, &vote_of(updates.as_slice()).text())?;
     text.push(b'\n')?;
     print(out, text.as_slice())
+}
+
+// So many creations, each of another branch.
+fn creations(alloc: Global, count: u32) -> Result<Updates, End> {
+    let mut updates = Updates::new(alloc);
+    for number in 0..count {
+        let text = format!(in alloc; "refs/heads/branch-{number:08}")?;
+        updates.push(Update {
+            old: Hash::zero(),
+            new: Hash([1; 20]),
+            name: name_of(alloc, text.as_bytes())?,
+        })?;
+    }
+    Ok(updates)
+}
+
+// Prepares the updates as many times as there are turns, and prints how many references there are
+// afterwards.
+fn tell<O: Sink>(
+    alloc: Global,
+    refs: &Refs,
+    updates: &Updates,
+    turns: u32,
+    out: &mut O,
+) -> Result<(), End> {
+    for _ in 0..turns {
+        let prepared = prepare(alloc, refs, updates)?;
+        let line = format!(in alloc; "{}\n", prepared.refs().len())?;
+        print(out, line.as_bytes())?;
+    }
+    Ok(())
+}
+
+fn prepare(alloc: Global, refs: &Refs, updates: &Updates) -> Result<Prepared, End> {
+    match Prepared::new(alloc, refs, updates.as_slice()) {
+        Ok(prepared) => Ok(prepared),
+        Err(RefRefusal::Memory) => Err(End::Memory),
+        Err(_) => Err(End::BadInput),
+    }
+}
+
+/// Prepares so many creations on no references.
+pub fn create<O: Sink>(alloc: Global, count: &str, turns: &str, out: &mut O) -> Result<(), End> {
+    let updates = creations(alloc, number(count)?)?;
+    tell(alloc, &Refs::new(alloc), &updates, number(turns)?, out)
+}
+
+/// Prepares one update on so many references.
+pub fn change<O: Sink>(alloc: Global, count: &str, turns: &str, out: &mut O) -> Result<(), End> {
+    let mut refs = Refs::new(alloc);
+    let updates = creations(alloc, number(count)?)?;
+    prepare(alloc, &refs, &updates)?.commit(&mut refs);
+    let mut one = Updates::new(alloc);
+    one.push(Update {
+        old: Hash([1; 20]),
+        new: Hash([2; 20]),
+        name: name_of(alloc, b"refs/heads/branch-00000000")?,
+    })?;
+    tell(alloc, &refs, &one, number(turns)?, out)
 }

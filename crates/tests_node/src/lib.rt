@@ -1,0 +1,5 @@
+//! Tests of keepers of rows, and of storage nodes.
+#![tactic(auto)]
+
+#[cfg(test)]
+mod keeper;

@@ -1,5 +1,5 @@
--- A store that has one object more.
-use Rattle.std.proofs.Common.{◌≡◌, ◌+◌, false, cond, length, Bor, Option, Some, None, sym, ◌∙◌, subst, ⊎_elim}
+-- A store that has one object more, or one less.
+use Rattle.std.proofs.Common.{◌≡◌, ◌+◌, Bool, true, false, cond, length, Bor, Option, Some, None, sym, ◌∙◌, subst, ⊎_elim}
 use Rattle.std.specs.Option.{is_some, option_copied, IfSome}
 use Rattle.std.proofs.lemmas.Bool.{cases_Bool, cond-true, cond-false}
 use Rattle.std.specs.List.Sorted.{IsStrictlySortedBy}
@@ -54,6 +54,20 @@ module _ (old new : Entries) (id : Hash) (object : GitObject) (takes : Takes old
       one_more = subst (λ (o : Option GitObject). length new ≡ length old + cond (is_some o) 0 1)
           (was ∙ absent) longer;
     }
+
+-- an object is taken away, and all else is as before
+pub IsStore-less : (old new : Entries) (id : Hash)
+    → ((q : Hash) → object_at new q ≡ cond (is_id id q) None (object_at old q)) → IsStore old
+    → IsStrictlySortedBy hash_cmp (keys_of new) → IsStore new
+IsStore-less old new id takes store ordered = record {
+  ordered = ordered;
+  named = λ q found is. at q found (is_id id q) (sym (takes q) ∙ is);
+}
+  where
+    at : (q : Hash) (found : GitObject) (b : Bool) → cond b None (object_at old q) ≡ Some found
+        → IsNamed q found
+    at q found true is = absurd (cc)
+    at q found false is = store.named q found is
 
 -- what is found under an id is named by it
 pub IsNamed-found : (store : Entries) → IsStore store → (id : Hash) (found : Option (Bor GitObject))

@@ -1,7 +1,14 @@
-mod BoundLemmas
+pub mod BoundLemmas
+pub mod BundleAfter
+pub mod BundleLemmas
+pub mod Changed
+pub mod Comes
 mod EntriesLemmas
 mod FirstLemmas
-mod Ids
+pub mod Ids
+mod Places
 mod QueueLemmas
 mod QueuedLemmas
-mod WalkLemmas
+pub mod ReachedLemmas
+pub mod TakenBack
+pub mod WalkLemmas

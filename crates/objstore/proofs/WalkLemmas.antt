@@ -70,7 +70,7 @@ module _ (objects : Objects) (tips : List Hash) where
       reached_next walk.taken walk.waiting (reached_after n) q stands
 
   -- and of every walk of the tips
-  reached : (walk : Walk) → IsWalk objects tips walk → (q : Hash) → Contains (stood walk) q
+  pub reached : (walk : Walk) → IsWalk objects tips walk → (q : Hash) → Contains (stood walk) q
       → IsReachable objects tips q
   reached walk is q stands =
       reached_after is.steps q (Contains-same q (ap stood (sym is.is)) stands)
@@ -143,12 +143,17 @@ module _ (objects : Objects) (tips : List Hash) where
         path_taken reach.tip reach.path id
         (Contains-same reach.tip all_off (tips_stand n reach.tip reach.begins)) reach.leads
 
+  -- where none waits, all that is reachable was taken
+  pub taken_at_end : (walk : Walk) → IsWalk objects tips walk → walk.waiting ≡ [] → (id : Hash)
+      → IsReachable objects tips id → Contains walk.taken id
+  taken_at_end walk is over id reach =
+      Contains-same id (ap (λ (w : Walk). w.taken) is.is)
+      (all_taken is.steps (ap (λ (w : Walk). w.waiting) is.is ∙ over) id reach)
+
   -- where none waits and all that was taken has an object, all that is reachable has one
   pub closed_at_end : (walk : Walk) → IsWalk objects tips walk → walk.waiting ≡ []
       → AllFound objects walk.taken → IsClosed objects tips
-  closed_at_end walk is over found id reach =
-      found id (Contains-same id (ap (λ (w : Walk). w.taken) is.is)
-      (all_taken is.steps (ap (λ (w : Walk). w.waiting) is.is ∙ over) id reach))
+  closed_at_end walk is over found id reach = found id (taken_at_end walk is over id reach)
 
   -- ---- no id stands there twice
 

@@ -1,7 +1,10 @@
 //! A store of objects.
 
-ghost use Rattle.std.specs.Prelude.{◌≡◌, ◌⊎◌, [], IfOk, IfErr, IfSome, OnOk, OnErr, None};
+ghost use Rattle.std.specs.Prelude.{◌≡◌, ◌⊎◌, ◌↔◌, [], length, IfOk, IfErr, IfSome, IsTrue, OnOk, OnErr, None};
+ghost use Rattle.std.specs.BTreeMap.{insert_entry, is_at};
+ghost use Rattle.std.specs.Map.{keys_of, remove_entry};
 ghost use Rattle.std.specs.Option.{option_copied};
+ghost use Rattle.px_base.specs.Hash.{hash_cmp};
 ghost use Rattle.px_base.specs.declared.hash.Hash.{Hash};
 ghost use Rattle.object_format.specs.Links.{bad_byte, links_of};
 ghost use Rattle.objstore.specs.Entries.{IsNamed, IsStore, object_at, object_in};
@@ -118,15 +121,21 @@ impl Store {
             }
             return Err(PutFault::Collision { id });
         }
-        self.add(alloc, id, object)?;
+        self.set(alloc, id, object)?;
         Ok(Put::Added)
     }
 
-    // Adds a copy of an object under its name, which is not there yet.
-    fn add(&mut self, alloc: Global, id: ObjectId, object: &Object) -> Result<(), AllocError>
-        requires named { IsNamed id object.now }
-        requires absent { object_at self.old id ≡ None }
-        ensures ok { OnOk result (AddsObject self.old self.new id object.now) }
+    // Sets a copy of an object under its name. Where it was not there, that is one object more.
+    pub(crate) fn set(
+        &mut self,
+        alloc: Global,
+        id: ObjectId,
+        object: &Object,
+    ) -> Result<(), AllocError>
+        requires { IsNamed id object.now }
+        ensures ok { OnOk result (self.new ≡ insert_entry hash_cmp self.old id object.now) }
+        ensures more { OnOk result (object_at self.old id ≡ None
+            → AddsObject self.old self.new id object.now) }
         ensures store { OnOk result (IsStore self.new) }
         ensures err { OnErr result (self.new ≡ self.old) }
     {
@@ -142,6 +151,39 @@ impl Store {
         ensures store { IsStore self.now }
     {
         self.objects.get(id)
+    }
+
+    /// Takes the object of that id away, if there is one. Takes no memory.
+    pub fn remove(&mut self, id: &ObjectId)
+        ensures { self.new ≡ remove_entry (is_at (hash_cmp id.now)) self.old }
+    {
+        self.objects.remove(id);
+    }
+
+    /// How many objects there are.
+    pub fn len(&self) -> usize
+        ensures len { result ≡ length self.now }
+        ensures store { IsStore self.now }
+    {
+        self.objects.len()
+    }
+
+    /// Whether there is none.
+    pub fn is_empty(&self) -> bool
+        ensures { IsTrue result ↔ (self.now ≡ []) }
+    {
+        self.objects.is_empty()
+    }
+
+    /// The ids, in their order.
+    pub fn ids(&self, alloc: Global) -> Result<Ids, AllocError>
+        ensures { IfOk result (λ ids. ids ≡ keys_of self.now) }
+    {
+        let mut ids = Ids::new(alloc);
+        for (id, _) in &self.objects {
+            ids.push(*id)?;
+        }
+        Ok(ids)
     }
 
     /// Whether each id that is reachable from the tips has an object, here or in the extra store.
@@ -163,7 +205,7 @@ impl Store {
     }
 
     // The object of an id here, or else in the extra store.
-    fn find<'a>(&'a self, id: &ObjectId, extra: &'a Store) -> Option<&'a Object>
+    pub(crate) fn find<'a>(&'a self, id: &ObjectId, extra: &'a Store) -> Option<&'a Object>
         ensures value { option_copied result ≡ object_in self.now extra.now id.now }
         ensures form { IfSome result (λ object.
             bad_byte object.now.kind object.now.content ≡ None) }
@@ -176,7 +218,7 @@ impl Store {
 }
 
 // The links of an object that has the form of its kind.
-fn links_in_form(alloc: Global, object: &Object) -> Result<Ids, AllocError>
+pub(crate) fn links_in_form(alloc: Global, object: &Object) -> Result<Ids, AllocError>
     requires { bad_byte object.now.kind object.now.content ≡ None }
     ensures { IfOk result (λ ids. ids ≡ links_of object.now.kind object.now.content) }
 {

@@ -1,9 +1,9 @@
-mod After
+pub mod After
 mod Conflicts
 mod Least
 mod NamesMet
 mod Names
 mod OneList
-mod RefLists
+pub mod RefLists
 mod RefMaps
 mod Under

@@ -1,35 +1,33 @@
--- The store takes the object under its name.
-use Rattle.std.proofs.Common.{Option, Some, cond, ap, ◌∙◌, subst}
-use Rattle.px_base.specs.Object.{GitObject}
-use Rattle.objstore.specs.Entries.{Entries, object_at, is_id}
-use Rattle.objstore.specs.Put.{AddsObject}
-use Rattle.objstore.proofs.EntriesLemmas.{Takes, IsStore-more, AddsObject-made}
+-- An object that is there leaves the store; one that was added is taken away again.
+use Rattle.std.proofs.Common.{◌≡◌, None, [], true, refl, ap, sym, ◌∙◌}
+use Rattle.std.specs.Option.{is_some}
+use Rattle.px_base.specs.declared.hash.Hash.{Hash}
+use Rattle.objstore.proofs.BundleLemmas.{with_object-present}
+use Rattle.objstore.proofs.Comes.{Comes-from_no_fault, present_where_some, is_some-copied, none_where_not_some}
+use Rattle.objstore.proofs.TakenBack.{undo_more}
+use Rattle.objstore.specs.Bundle.{without_id}
+use Rattle.objstore.specs.Entries.{Entries, object_at, own_name}
 use Rattle.objstore.proofs.store.Store.add.Goals as goal
 
--- what the map has after the insertion
-takes : (c : goal.Joined-branch-3)
-    → Takes c.self.inside.objects.entries c.insert.new.self.entries c.args.id c.args.object.now
-takes c = λ q. c.in_ok-insert.ensures.updates.0 q
-    ∙ ap (λ (o : GitObject). cond {A = Option GitObject} (is_id c.args.id q) (Some o)
-    (object_at c.self.inside.objects.entries q)) c.in_ok-copy.ensures
+pub returns-then-is_some-clause-ok : goal.returns-then-is_some-clause-ok
+returns-then-is_some-clause-ok c =
+    let store = c.args.self.now in
+    let object = c.args.object.now in
+    let name : own_name object ≡ c.name_of-id.result = cc in
+    let some : is_some (object_at store (own_name object)) ≡ true =
+    ap (λ (id : Hash). is_some (object_at store id)) name
+    ∙ ap is_some (sym c.get.ensures.value) ∙ is_some-copied c.get.result
+    ∙ sym c.is_some.ensures ∙ c.if-is_some.true in
+    sym (with_object-present store object c.get.ensures.store.ordered
+    (present_where_some store object (Comes-from_no_fault store 0 object c.requires) some))
 
-pub invariant_of-self-2 : goal.invariant_of-self-2
-invariant_of-self-2 c =
-    IsStore-more c.self.inside.objects.entries _ c.args.id c.args.object.now (takes c)
-    c.self.invariant c.requires.named c.insert.ensures.ordered
-
-pub returns-clause-ok : goal.returns-clause-ok
-returns-clause-ok c =
-    let before = c.self.inside.objects.entries in
-    let made : AddsObject before c.insert.new.self.entries c.args.id c.args.object.now =
-    AddsObject-made before _ c.args.id c.args.object.now (takes c) c.in_ok-insert.field-0
-    c.in_ok-insert.ensures.old
-    (ap (λ (s : Entries). object_at s c.args.id) c.self.view_is ∙ c.requires.absent)
-    c.in_ok-insert.ensures.len in
-    subst (λ (s : Entries). AddsObject s c.insert.new.self.entries c.args.id c.args.object.now)
-    c.self.view_is made
-
-pub returns-clause-store : goal.returns-clause-store
-returns-clause-store c =
-    IsStore-more c.self.inside.objects.entries _ c.args.id c.args.object.now (takes c)
-    c.self.invariant c.requires.named c.insert.ensures.ordered
+pub returns-in-Err-clause-err : goal.returns-in-Err-clause-err
+returns-in-Err-clause-err c =
+    let store = c.args.self.now in
+    let id = c.name_of-id.result in
+    let absent : object_at store id ≡ None =
+    none_where_not_some (object_at store id)
+    (ap is_some (sym c.get.ensures.value) ∙ is_some-copied c.get.result
+    ∙ sym c.is_some.ensures ∙ c.if-is_some.false) in
+    c.remove.ensures ∙ ap (λ (s : Entries). without_id s id) c.in_ok-set.ensures.ok
+    ∙ undo_more store store [] id c.args.object.now c.get.ensures.store.ordered refl absent

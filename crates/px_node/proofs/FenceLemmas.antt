@@ -1,0 +1,79 @@
+-- Calls under leases: which fences they pass, and that fences never fall.
+use Rattle.std.proofs.Common.{◌≡◌, ◌<◌, ◌≤◌, ◌+◌, ℕ, List, None, Result, Ok, Err, max, ap, arith, refl, inl, inr}
+use Rattle.std.proofs.lemmas.Bool.Decides.{nat_tests}
+use Rattle.px_node.proofs.StepLemmas.{Keeps, run_keeps, step_keeps}
+use Rattle.px_node.specs.Calls.{fenced}
+use Rattle.px_node.specs.Ends.{Ends, IsEither, Same}
+use Rattle.px_node.specs.Place.{NodeState, Place}
+use Rattle.px_node.specs.Steps.{HasNoEffect, IsRun, IsStep}
+use Rattle.px_node.specs.declared.node.NodeError.{NodeError}
+use Rattle.px_node.specs.declared.node.NodeError.TheVariants.{Fault, Memory, Refused}
+use Rattle.px_node.specs.declared.refusal.NodeRefusal.{NodeRefusal}
+
+-- a call that is not refused carries a lease that is not below the fence
+pub fence_passed : (lease : ℕ) (place : Place) → fenced lease place ≡ None
+    → place.fence < lease + 1
+fence_passed lease place none = grind (arith, nat_tests)
+
+pub never_below : (lease : ℕ) (place : Place) → lease < place.fence → fenced lease place ≡ None → ⊥
+never_below lease place below none = absurd (omega (arith, fence_passed lease place none))
+
+-- ---- a call that is never done
+
+module _ {A : Type 0} (refuses : Place → NodeRefusal → Type 0) (does : Place → A → Place → Type 0)
+    (path : List ℕ) (old new : NodeState)
+    (never : (answer : A) (place : Place) → does (old path) answer place → ⊥) where
+  either_same : IsEither refuses does path old new → Same old new
+  either_same (inl same) = same
+  either_same (inr done) = absurd (never done.0 done.1.place done.1.does_)
+
+  pub never_done : (result : Result A NodeError) → Ends refuses does path result old new
+      → HasNoEffect result old new
+  never_done (Ok answer) ends = absurd (never answer ends.place ends.does_)
+  never_done (Err (Refused r)) ends = record { failed = refl; same = ends.1 }
+  never_done (Err Fault) ends = record { failed = refl; same = either_same ends }
+  never_done (Err Memory) ends = record { failed = refl; same = either_same ends }
+
+-- ---- fences
+
+-- the fence is no lower
+abbrev pub FenceStays : Place → Place → Type 0
+FenceStays place then_ = place.fence ≤ then_.fence
+
+fence_of : (a b : Place) → a ≡ b → a.fence ≡ b.fence
+fence_of a b same = ap (λ (p : Place). p.fence) same
+
+is_raised : (fence to now : ℕ) → now ≡ max fence to → fence ≤ now
+is_raised fence to now is = omega arith
+
+fences_stay : Keeps FenceStays
+fences_stay = record {
+  stays = λ place. omega arith;
+  creates = λ lease place answer then_ done.
+      is_raised place.fence (lease + 1) then_.fence (fence_of then_ _ done.is);
+  prepares = λ lease push place answer then_ lawful done.
+      is_raised place.fence lease then_.fence (fence_of then_ _ done.is);
+  commits = λ lease hash place answer then_ done.
+      is_raised place.fence (lease + 1) then_.fence (fence_of then_ _ done.is);
+  aborts = λ lease place answer then_ done.
+      is_raised place.fence (lease + 1) then_.fence (fence_of then_ _ done.is);
+  raises = λ lease place. is_raised place.fence lease (max place.fence lease) refl;
+  applies = λ lease given place answer then_ lawful done.
+      is_raised place.fence (lease + 1) then_.fence (fence_of then_ _ done.is);
+  removes = λ lease place answer then_ done.
+      is_raised place.fence (lease + 1) then_.fence (fence_of then_ _ done.is);
+  ends = λ place. omega arith;
+}
+
+pub step_fences : (old new : NodeState) → IsStep old new → (path : List ℕ)
+    → (old path).fence ≤ (new path).fence
+step_fences old new step path = step_keeps FenceStays fences_stay old new step path
+
+le_through : (a b c : ℕ) → a ≤ b → b ≤ c → a ≤ c
+le_through a b c below above = omega arith
+
+pub run_fences : (old new : NodeState) → IsRun old new → (path : List ℕ)
+    → (old path).fence ≤ (new path).fence
+run_fences old new run path =
+    run_keeps FenceStays fences_stay
+    (λ a b c below above. le_through a.fence b.fence c.fence below above) old new run path

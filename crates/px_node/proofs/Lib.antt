@@ -1,0 +1,9 @@
+mod FenceLemmas
+mod ObjectLemmas
+mod OptionLemmas
+mod ReachLemmas
+mod RefusalLemmas
+mod SoundLemmas
+mod StepLemmas
+mod TipLemmas
+mod UpdateLemmas

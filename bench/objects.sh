@@ -1,16 +1,10 @@
 #!/bin/sh
 # Measures `plumbing hash`, which names objects of 8,000,000 bytes, on 104 MB, beside `sha1sum` on as many bytes.
-# Make the program first: cd crates/plumbing && rt run -- objects < stdin
 set -eu
-top=$(cd "$(dirname "$0")/.." && pwd)
-program=$top/crates/plumbing/out/plumbing
+. "$(dirname "$0")/plumbing.sh"
 work=$(mktemp -d)
 trap 'rm -rf "$work"' EXIT
 
-if [ ! -x "$program" ]; then
-    echo "objects.sh: first make the program: cd crates/plumbing && rt run -- objects < stdin" >&2
-    exit 2
-fi
 head -c 104000000 /dev/urandom >"$work/bytes"
 
 measure() {

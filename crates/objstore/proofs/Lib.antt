@@ -3,10 +3,10 @@ pub mod BundleAfter
 pub mod BundleLemmas
 pub mod Changed
 pub mod Comes
-mod EntriesLemmas
+pub mod EntriesLemmas
 mod FirstLemmas
 pub mod Ids
-mod Places
+pub mod Places
 mod QueueLemmas
 mod QueuedLemmas
 pub mod ReachedLemmas

@@ -6,7 +6,7 @@ use Rattle.std.specs.Map.{keys_of, lookup}
 use Rattle.std.specs.Option.{option_or}
 use Rattle.std.specs.Ordering.{eq_by_cmp}
 use Rattle.px_base.specs.Hash.{hash_cmp}
-use Rattle.px_base.specs.Object.{GitObject}
+use Rattle.px_base.specs.Object.{GitObject, IsSmall}
 use Rattle.px_base.specs.declared.hash.Hash.{Hash}
 use Rattle.object_format.specs.Links.{bad_byte}
 use Rattle.object_format.specs.Name.{object_name}
@@ -45,3 +45,8 @@ pub record IsStore (store : Entries) : Type 0 where
   pub ordered : IsStrictlySortedBy hash_cmp (keys_of store)
   pub named : (id : Hash) (object : GitObject) → object_at store id ≡ Some object
       → IsNamed id object
+
+-- no object of the store has more content than an object may have
+abbrev pub AreSmall : Entries → Type 0
+AreSmall store =
+    (id : Hash) (object : GitObject) → object_at store id ≡ Some object → IsSmall object.content

@@ -5,9 +5,10 @@ ghost use Rattle.std.specs.BTreeMap.{insert_entry, is_at};
 ghost use Rattle.std.specs.Map.{keys_of, remove_entry};
 ghost use Rattle.std.specs.Option.{option_copied};
 ghost use Rattle.px_base.specs.Hash.{hash_cmp};
+ghost use Rattle.px_base.specs.Object.{IsSmall};
 ghost use Rattle.px_base.specs.declared.hash.Hash.{Hash};
 ghost use Rattle.object_format.specs.Links.{bad_byte, links_of};
-ghost use Rattle.objstore.specs.Entries.{IsNamed, IsStore, object_at, object_in};
+ghost use Rattle.objstore.specs.Entries.{AreSmall, IsNamed, IsStore, object_at, object_in};
 ghost use Rattle.objstore.specs.Put.{AddsObject, IsRefused, Puts};
 ghost use Rattle.objstore.specs.Reach.{IsClosed};
 ghost use Rattle.objstore.specs.Missing.{IsMissed};
@@ -84,13 +85,13 @@ pub struct Store {
 
 impl Model for Store {
     ghost use Rattle.object_format.specs.Links.{bad_byte, links_of};
-    ghost use Rattle.objstore.specs.Entries.{Entries, IsStore};
+    ghost use Rattle.objstore.specs.Entries.{AreSmall, Entries, IsStore};
 
     ghost Value = { Entries };
 
     ghost view = { λ s. s.objects.entries };
 
-    ghost invariant = { λ s. IsStore s.objects.entries };
+    ghost invariant = { λ s. IsStore s.objects.entries × AreSmall s.objects.entries };
 }
 
 impl Store {
@@ -132,7 +133,8 @@ impl Store {
         id: ObjectId,
         object: &Object,
     ) -> Result<(), AllocError>
-        requires { IsNamed id object.now }
+        requires named { IsNamed id object.now }
+        requires small { IsSmall object.now.content }
         ensures ok { OnOk result (self.new ≡ insert_entry hash_cmp self.old id object.now) }
         ensures more { OnOk result (object_at self.old id ≡ None
             → AddsObject self.old self.new id object.now) }
@@ -149,6 +151,7 @@ impl Store {
         ensures value { option_copied result ≡ object_at self.now id.now }
         ensures named { IfSome result (λ object. IsNamed id.now object.now) }
         ensures store { IsStore self.now }
+        ensures small { AreSmall self.now }
     {
         self.objects.get(id)
     }
@@ -164,6 +167,7 @@ impl Store {
     pub fn len(&self) -> usize
         ensures len { result ≡ length self.now }
         ensures store { IsStore self.now }
+        ensures small { AreSmall self.now }
     {
         self.objects.len()
     }

@@ -54,7 +54,8 @@ impl RepoPath {
 
     /// A copy of it.
     pub fn copy(&self, alloc: Global) -> Result<RepoPath, AllocError>
-        ensures { IfOk result (λ copied. copied ≡ self.now) }
+        ensures value { IfOk result (λ copied. copied ≡ self.now) }
+        ensures path { IsRepoPath self.now }
     {
         let bytes = Bytes::from_slice(alloc, self.as_bytes())?;
         Ok(RepoPath { bytes })

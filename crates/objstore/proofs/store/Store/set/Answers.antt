@@ -1,9 +1,9 @@
--- The store takes the object under its name.
+-- The store takes the object under its name; all its objects stay small.
 use Rattle.std.proofs.Common.{Option, Some, cond, ap, ◌∙◌, subst}
 use Rattle.px_base.specs.Object.{GitObject}
-use Rattle.objstore.specs.Entries.{Entries, object_at, is_id}
+use Rattle.objstore.specs.Entries.{Entries, object_at, is_id, IsStore}
 use Rattle.objstore.specs.Put.{AddsObject}
-use Rattle.objstore.proofs.EntriesLemmas.{Takes, IsStore-more, AddsObject-made}
+use Rattle.objstore.proofs.EntriesLemmas.{Takes, IsStore-more, AreSmall-more, AddsObject-made}
 use Rattle.objstore.proofs.store.Store.set.Goals as goal
 
 -- what the map has after the insertion
@@ -13,10 +13,18 @@ takes c = λ q. c.in_ok-insert.ensures.updates.0 q
     ∙ ap (λ (o : GitObject). cond {A = Option GitObject} (is_id c.args.id q) (Some o)
     (object_at c.self.inside.objects.entries q)) c.in_ok-copy.ensures
 
-pub invariant_of-self-2 : goal.invariant_of-self-2
-invariant_of-self-2 c =
+-- all stand under their names
+store : (c : goal.Joined-branch-3) → IsStore c.insert.new.self.entries
+store c =
     IsStore-more c.self.inside.objects.entries _ c.args.id c.args.object.now (takes c)
-    c.self.invariant c.requires c.insert.ensures.ordered
+    c.self.invariant.0 c.requires.named c.insert.ensures.ordered
+
+pub invariant_of-self-2 : goal.invariant_of-self-2
+invariant_of-self-2 c = (
+  store c,
+  AreSmall-more c.self.inside.objects.entries _ c.args.id c.args.object.now (takes c)
+      c.self.invariant.1 c.requires.small,
+)
 
 pub returns-clause-more : goal.returns-clause-more
 returns-clause-more c = λ absent.
@@ -30,6 +38,4 @@ returns-clause-more c = λ absent.
     c.self.view_is made
 
 pub returns-clause-store : goal.returns-clause-store
-returns-clause-store c =
-    IsStore-more c.self.inside.objects.entries _ c.args.id c.args.object.now (takes c)
-    c.self.invariant c.requires c.insert.ensures.ordered
+returns-clause-store c = store c

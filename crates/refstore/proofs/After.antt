@@ -90,7 +90,8 @@ module _ (name : List ℕ) (id : Hash) where
         rest,
       )
 
-  ref_at-set : (refs : References) (q : List ℕ)
+  -- it has the object then, and each other name what it had
+  pub ref_at-set : (refs : References) (q : List ℕ)
       → ref_at (insert_entry name_cmp refs name id) q ≡ cond (is_name name q) (Some id) (ref_at refs q)
   ref_at-set [] q = ap (λ (b : Bool). cond {A = Option Hash} b (Some id) None) (names_laws.symm q name)
   ref_at-set (ref ∷ refs) q = at (ref_at-set refs q) (name_cmp name ref.0) refl
@@ -163,7 +164,7 @@ ascends-updated refs update ascends = at (is_zero update.new)
     at true = ascends_gone update.name update.new refs ascends
     at false = ascends_set update.name update.new refs ascends
 
-ref_at-updated : (refs : References) (update : Update) → Ascends refs → (q : List ℕ)
+pub ref_at-updated : (refs : References) (update : Update) → Ascends refs → (q : List ℕ)
     → ref_at (updated refs update) q ≡ cond (is_name update.name q) (given update) (ref_at refs q)
 ref_at-updated refs update ascends q = at (is_zero update.new)
   where

@@ -23,7 +23,7 @@ pub there_from_among : (refs : References) (name : List ℕ) → is_among name (
 there_from_among refs name among = is_some-lookup (is_name name) refs ∙ among
 
 -- what holds of all names holds of each that is among them
-all_among : (P : List ℕ → Type 0) (names : List (List ℕ)) (name : List ℕ)
+pub all_among : (P : List ℕ → Type 0) (names : List (List ℕ)) (name : List ℕ)
     → AllByRecursion P names → is_among name names ≡ true → P name
 all_among P [] name all among = absurd (cc)
 all_among P (first ∷ names) name all among = ⊎_elim

@@ -1,9 +1,10 @@
 pub mod After
 mod Conflicts
-mod Least
+mod Creations
+pub mod Least
+pub mod Names
 mod NamesMet
-mod Names
 mod OneList
 pub mod RefLists
 mod RefMaps
-mod Under
+pub mod Under

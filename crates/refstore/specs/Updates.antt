@@ -28,6 +28,10 @@ after refs (update ∷ updates) = after (updated refs update) updates
 abbrev pub given : Update → Option Hash
 given update = if is_zero update.new then None else Some update.new
 
+-- the update that creates a reference
+abbrev pub creation : List ℕ → Hash → Update
+creation name id = record { old = zero_hash; new = id; name = name }
+
 -- ---- why the updates may not be done
 
 -- the object that a name has, and the zero name where there is no such name

@@ -1,6 +1,7 @@
 //! A list of updates that is checked and ready to be done.
 
 ghost use Rattle.std.specs.Prelude.{◌≡◌, ◌⊎◌, None, Some, IfOk, IfErr, OnOk};
+ghost use Rattle.px_base.specs.RefList.{IsRefList};
 ghost use Rattle.refstore.specs.Hook.{vote_on};
 ghost use Rattle.refstore.specs.Updates.{after, refusal_of, Fits};
 
@@ -80,6 +81,7 @@ impl Prepared {
         ensures map { IfOk result (λ prepared. prepared.refs ≡ after refs.now updates.now) }
         ensures vote { IfOk result (λ prepared. prepared.vote ≡ vote_on updates.now) }
         ensures accepted { OnOk result (Fits updates.now refs.now) }
+        ensures list { OnOk result (IsRefList refs.now) }
         ensures refused { IfErr result (λ e. (e ≡ RefRefusal.Memory)
             ⊎ (refusal_of refs.now updates.now ≡ Some e)) }
     {

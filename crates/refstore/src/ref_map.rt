@@ -1,6 +1,6 @@
 //! Names with the object of each, on the way to the references of a repository.
 
-ghost use Rattle.std.specs.Prelude.{◌≡◌, [], length, is_some, IfOk, IsTrue, OnOk, MatchOption};
+ghost use Rattle.std.specs.Prelude.{◌≡◌, [], length, is_some, IfOk, IsTrue, OnOk, OnErr, MatchOption};
 ghost use Rattle.std.specs.BTreeMap.{insert_entry, is_at};
 ghost use Rattle.std.specs.List.Sorted.{IsStrictlySortedBy};
 ghost use Rattle.std.specs.Map.{keys_of, remove_entry};
@@ -52,7 +52,8 @@ impl RefMap {
 
     /// The object of a name.
     pub fn get(&self, name: &RefName) -> Option<ObjectId>
-        ensures { result ≡ ref_at self.now name.now }
+        ensures value { result ≡ ref_at self.now name.now }
+        ensures map { IsRefMap self.now }
     {
         self.map.get(name.bytes()).copied()
     }
@@ -76,9 +77,11 @@ impl RefMap {
         }
     }
 
-    /// Sets a name, which it copies, to an object.
+    /// Sets a name, which it copies, to an object. Where memory wants, the map stays.
     pub fn set(&mut self, alloc: Global, name: &RefName, id: ObjectId) -> Result<(), AllocError>
-        ensures { OnOk result (self.new ≡ insert_entry name_cmp self.old name.now id) }
+        ensures ok { OnOk result (self.new ≡ insert_entry name_cmp self.old name.now id) }
+        ensures map { OnOk result (IsRefMap self.new) }
+        ensures err { OnErr result (self.new ≡ self.old) }
     {
         let copied = name.bytes().copy(alloc)?;
         self.map.insert(copied, id)?;

@@ -1,10 +1,13 @@
 //! The references of a repository.
 
-ghost use Rattle.std.specs.Prelude.{◌≡◌, ◌↔◌, [], length, IfOk, IsTrue};
+ghost use Rattle.std.specs.Prelude.{◌≡◌, ◌⊎◌, ◌↔◌, [], ◌∷◌, length, IfOk, IfErr, IsTrue, OnOk, OnErr, Some};
 ghost use Rattle.px_base.specs.RefList.{IsRefList, ref_at};
+ghost use Rattle.refstore.specs.Updates.{Fits, after, creation, refusal_of};
 
+use crate::conflict::least_conflict;
+use crate::prepared::RefRefusal;
 use crate::ref_map::RefMap;
-use px_base::{ObjectId, RefList, RefName};
+use px_base::{MAX_REFS, ObjectId, RefList, RefName};
 use std::alloc::{AllocError, Global};
 use std::marker::Model;
 
@@ -65,7 +68,8 @@ impl Refs {
 
     /// How many there are.
     pub fn len(&self) -> usize
-        ensures { result ≡ length self.now }
+        ensures len { result ≡ length self.now }
+        ensures list { IsRefList self.now }
     {
         self.map.len()
     }
@@ -90,5 +94,36 @@ impl Refs {
         ensures { IfOk result (λ list. list ≡ self.now) }
     {
         self.map.list(alloc)
+    }
+
+    /// Creates a reference: what a list of this one creation does, done in place, so that the time does
+    /// not grow with the references but by look-ups. A refusal leaves the references as they were. It is
+    /// `Void` for the zero name, `Stale` where the name is there, `Conflict`, `TooManyRefs` or `Memory`.
+    pub fn create(&mut self, alloc: Global, name: RefName, id: ObjectId) -> Result<(), RefRefusal>
+        // There is this one more, and those before were such as a repository may have.
+        ensures ok { OnOk result (self.new ≡ after self.old (creation name id ∷ [])) }
+        ensures list { IsRefList self.old }
+
+        // Each refusal comes exactly where the list of this creation has it.
+        ensures accepted { OnOk result (Fits (creation name id ∷ []) self.old) }
+        ensures refused { IfErr result (λ e. (e ≡ RefRefusal.Memory)
+            ⊎ (refusal_of self.old (creation name id ∷ []) ≡ Some e)) }
+        ensures err { OnErr result (self.new ≡ self.old) }
+    {
+        let stands = self.map.get(&name);
+        if id.is_zero() {
+            return Err(RefRefusal::Void { name });
+        }
+        if let Some(have) = stands {
+            return Err(RefRefusal::Stale { name, have });
+        }
+        if let Some(with) = least_conflict(alloc, &self.map, &name)? {
+            return Err(RefRefusal::Conflict { name, with });
+        }
+        if self.map.len() >= MAX_REFS {
+            return Err(RefRefusal::TooManyRefs);
+        }
+        self.map.set(alloc, &name, id)?;
+        Ok(())
     }
 }

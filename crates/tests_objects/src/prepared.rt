@@ -128,6 +128,41 @@ fn a_list_is_refused_or_has_its_references(rt: HostRuntime) -> Result<(), Fail> 
     Ok(())
 }
 
+// What creating a reference comes to: a refusal, or the references afterwards. The line has the object
+// and the name.
+fn created(alloc: Global, refs: &mut Refs, line: &str) -> Result<String, Fail> {
+    let mut words = line.split_whitespace();
+    let id = object(words.next().unwrap_or(""))?;
+    let name = RefName::read(alloc, words.next().unwrap_or("").as_bytes())?;
+    match refs.create(alloc, name, id) {
+        Ok(()) => shown(alloc, refs),
+        Err(refusal) => told(alloc, &refusal),
+    }
+}
+
+#[test]
+fn a_reference_is_created_or_refused(rt: HostRuntime) -> Result<(), Fail> {
+    let alloc = rt.alloc();
+    let mut refs = begun(alloc, "0 B refs/a\n0 T refs/c/d")?;
+    let table = [
+        ("0 refs/x", "void refs/x"),
+        // The zero name is told before the name that is there, and that before a conflict.
+        ("0 refs/a", "void refs/a"),
+        ("T refs/a", "stale refs/a B"),
+        ("T refs/a/b", "conflict refs/a/b refs/a"),
+        ("T refs/c", "conflict refs/c refs/c/d"),
+        ("T refs/b", "B refs/a T refs/b T refs/c/d "),
+        ("B refs/b", "stale refs/b T"),
+    ];
+    for (line, want) in table {
+        let shown = created(alloc, &mut refs, line)?;
+        assert_eq!(rt; shown.as_str(), want);
+    }
+    let stays = shown(alloc, &refs)?;
+    assert_eq!(rt; stays.as_str(), "B refs/a T refs/b T refs/c/d ");
+    Ok(())
+}
+
 #[test]
 fn what_was_prepared_is_committed_or_not(rt: HostRuntime) -> Result<(), Fail> {
     let alloc = rt.alloc();

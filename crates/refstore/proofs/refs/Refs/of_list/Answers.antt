@@ -8,4 +8,4 @@ loop-name-preserved c =
     takes_more c.as_slice-pairs.result.now c.loop-name.map c.set.new.self c.loop-name.name-index
     c.loop-name-item.result (omega arith) c.loop-name-item.is
     (subst Ascends (sym c.as_slice-pairs.ensures.value) c.as_slice-pairs.ensures.list.ordered)
-    c.loop-name.invariant c.in_ok-set.ensures
+    c.loop-name.invariant c.in_ok-set.ensures.ok

@@ -1,0 +1,157 @@
+//! What rows say.
+
+ghost use Rattle.std.specs.Prelude.{◌≡◌, ◌≢◌, ◌<◌, ◌-◌, ◌^◌, ◌++◌, ◌∷◌, ℕ, Bool, List, length, IfNone, IfOk, IfSome, Option};
+ghost use Rattle.std.specs.Int.{to_be_bytes, w64};
+ghost use Rattle.std.specs.Option.{option_map};
+ghost use Rattle.node_rows.specs.Rows.{cut, flag, kind_code, last_bytes, object_bytes, replica_bytes};
+ghost use Rattle.px_base.specs.Hash.{IsHash};
+ghost use Rattle.px_base.specs.Object.{GitObject, IsSmall};
+ghost use Rattle.px_base.specs.declared.kind.Kind.{Kind};
+
+use px_base::{Bytes, Hash, Kind, Lease, MAX_CONTENT_BYTES, Object, ObjectId};
+use std::alloc::{AllocError, Global};
+
+/// What the row of a repository says.
+#[derive(Clone, Copy, Debug, PartialEq, Eq)]
+pub struct ReplicaRow {
+    /// The fence, which is the least lease that an effect may carry.
+    pub fence: u64,
+    /// The lease of the last push that was done.
+    pub last: Option<Lease>,
+    /// Whether the repository is held.
+    pub held: bool,
+}
+
+// The number that the first eight bytes are, and what stands behind them.
+fn number_at(bytes: &[u8]) -> Option<(u64, &[u8])>
+    ensures some { IfSome result (λ read. bytes.now ≡ to_be_bytes w64 read.0 ++ read.1.now) }
+    ensures none { IfNone result (length bytes.now < 8) }
+{
+    match bytes.split_first_chunk::<8>() {
+        Some((front, rest)) => Some((u64::from_be_bytes(*front), rest)),
+        None => None,
+    }
+}
+
+// The flag that the first byte is, and what stands behind it.
+fn flag_at(bytes: &[u8]) -> Option<(bool, &[u8])>
+    ensures some { IfSome result (λ read. bytes.now ≡ flag read.0 ∷ read.1.now) }
+    ensures none { IfNone result ((set : Bool) (rest : List ℕ) → bytes.now ≢ flag set ∷ rest) }
+{
+    match bytes {
+        [0, rest @ ..] => Some((false, rest)),
+        [1, rest @ ..] => Some((true, rest)),
+        _ => None,
+    }
+}
+
+// The last lease that the first nine bytes are, and what stands behind them.
+fn last_at(bytes: &[u8]) -> Option<(Option<Lease>, &[u8])>
+    ensures some { IfSome result (λ read. bytes.now ≡ last_bytes read.0 ++ read.1.now) }
+    ensures fits { IfSome result (λ read. IfSome read.0 (λ lease. lease < 2 ^ 64 - 1)) }
+    ensures none { IfNone result ((last : Option ℕ) (rest : List ℕ)
+        → IfSome last (λ lease. lease < 2 ^ 64 - 1) → bytes.now ≢ last_bytes last ++ rest) }
+{
+    let Some((is_some, rest)) = flag_at(bytes) else {
+        return None;
+    };
+    let Some((number, rest)) = number_at(rest) else {
+        return None;
+    };
+    if !is_some {
+        if number != 0 {
+            return None;
+        }
+        return Some((None, rest));
+    }
+    match Lease::new(number) {
+        Some(lease) => Some((Some(lease), rest)),
+        None => None,
+    }
+}
+
+/// What the value of a row of table 6 says, or `None` where it is no such value: 8 bytes of the
+/// fence, a flag and 8 bytes of the last lease, and a flag, numbers with the highest byte first,
+/// flags 0 or 1. The lease is 0 where its flag is, and never 2^64 - 1.
+pub fn read_replica(value: &[u8]) -> Option<ReplicaRow>
+    ensures says { IfSome result (λ row. value.now ≡ replica_bytes row.fence row.last row.held) }
+    ensures fits { IfSome result (λ row.
+        (row.fence < 2 ^ 64) × IfSome row.last (λ lease. lease < 2 ^ 64 - 1)) }
+    ensures none { IfNone result ((fence : ℕ) (last : Option ℕ) (held : Bool) → fence < 2 ^ 64
+        → IfSome last (λ lease. lease < 2 ^ 64 - 1) → value.now ≢ replica_bytes fence last held) }
+{
+    let Some((fence, rest)) = number_at(value) else {
+        return None;
+    };
+    let Some((last, rest)) = last_at(rest) else {
+        return None;
+    };
+    let Some((held, rest)) = flag_at(rest) else {
+        return None;
+    };
+    if !rest.is_empty() {
+        return None;
+    }
+    Some(ReplicaRow { fence, last, held })
+}
+
+/// What stands before the first NUL of a key, and what stands behind it.
+pub fn parts_of(key: &[u8]) -> Option<(&[u8], &[u8])>
+    ensures { option_map (λ parts. (parts.0.now, parts.1.now)) result ≡ cut key.now }
+{
+    for (place, byte) in key.iter().enumerate() {
+        if *byte == 0 {
+            return Some((&key[..place], &key[place + 1..]));
+        }
+    }
+    None
+}
+
+/// The id that the value of a row of table 7 is, or `None` where it has not 20 bytes.
+pub fn read_id(value: &[u8]) -> Option<ObjectId>
+    ensures id { IfSome result (λ id. (value.now ≡ id.0) × IsHash id) }
+    ensures none { IfNone result (length value.now ≢ 20) }
+{
+    if value.len() != 20 {
+        return None;
+    }
+    match value.first_chunk::<20>() {
+        Some(id) => Some(Hash(*id)),
+        None => None,
+    }
+}
+
+// The kind of that code.
+fn kind_of(code: u8) -> Option<Kind>
+    ensures some { IfSome result (λ kind. code ≡ kind_code kind) }
+    ensures none { IfNone result ((kind : Kind) → code ≢ kind_code kind) }
+{
+    match code {
+        1 => Some(Kind::Commit),
+        2 => Some(Kind::Tree),
+        3 => Some(Kind::Blob),
+        4 => Some(Kind::Tag),
+        _ => None,
+    }
+}
+
+/// The object that the value of a row of table 8 is, or `None` where it is none: a byte for the
+/// kind, and the content, of at most `MAX_CONTENT_BYTES` bytes.
+pub fn read_object(alloc: Global, value: &[u8]) -> Result<Option<Object>, AllocError>
+    ensures some { IfOk result (λ read.
+        IfSome read (λ object. (value.now ≡ object_bytes object) × IsSmall object.content)) }
+    ensures none { IfOk result (λ read. IfNone read ((object : GitObject)
+        → IsSmall object.content → value.now ≢ object_bytes object)) }
+{
+    let Some((code, content)) = value.split_first() else {
+        return Ok(None);
+    };
+    let Some(kind) = kind_of(*code) else {
+        return Ok(None);
+    };
+    if content.len() > MAX_CONTENT_BYTES {
+        return Ok(None);
+    }
+    let content = Bytes::from_slice(alloc, content)?;
+    Ok(Object::new(kind, content))
+}

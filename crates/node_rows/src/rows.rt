@@ -1,0 +1,268 @@
+//! The changes of the rows of a repository that each effect makes.
+
+ghost use Rattle.std.specs.Prelude.{◌≡◌, ◌∷◌, ◌++◌, [], Some, None, IfOk, OnOk};
+ghost use Rattle.std.specs.Map.{keys_of};
+ghost use Rattle.node_rows.specs.Rows.{flag, kind_code, under};
+ghost use Rattle.node_rows.specs.Writes.{coming_changes, object_change, objects_gone, ref_change, refs_changes, gone_changes, put_changes, names, replica_change, update_changes};
+ghost use Rattle.px_base.specs.RefList.{ref_at};
+ghost use Rattle.px_base.specs.RepoPath.{IsRepoPath};
+
+use objstore::Store;
+use px_base::{Bytes, Kind, Lease, Object, ObjectId, Push, RefName, RepoPath, Update};
+use px_keeper::Batch;
+use refstore::Refs;
+use std::alloc::{AllocError, Global};
+
+/// The table of fences, last leases, and what is held, by path.
+const REPLICAS: u8 = 6;
+
+/// The table of references, by path and name.
+const REFS: u8 = 7;
+
+/// The table of objects, by path and id.
+const OBJECTS: u8 = 8;
+
+fn flag(set: bool) -> u8
+    ensures { result ≡ flag set }
+{
+    if set { 1 } else { 0 }
+}
+
+fn code_of(kind: Kind) -> u8
+    ensures { result ≡ kind_code kind }
+{
+    match kind {
+        Kind::Commit => 1,
+        Kind::Tree => 2,
+        Kind::Blob => 3,
+        Kind::Tag => 4,
+    }
+}
+
+// The path, a NUL and what is named there.
+fn key_of(alloc: Global, repo: &RepoPath, rest: &[u8]) -> Result<Bytes, AllocError>
+    ensures { IfOk result (λ key. key ≡ under repo.now rest.now) }
+{
+    let mut key = Bytes::from_slice(alloc, repo.as_bytes())?;
+    key.push(0)?;
+    key.extend_from_slice(rest)?;
+    Ok(key)
+}
+
+/// The batch that begins with the row of a repository: its fence, its last lease, and whether it is
+/// held.
+pub fn begun(
+    alloc: Global,
+    repo: &RepoPath,
+    fence: u64,
+    last: Option<Lease>,
+    held: bool,
+) -> Result<Batch, AllocError>
+    ensures batch { IfOk result (λ batch. batch ≡ replica_change repo.now fence last held ∷ []) }
+    ensures path { OnOk result (IsRepoPath repo.now) }
+{
+    let mut value = Bytes::from_slice(alloc, &fence.to_be_bytes())?;
+    value.push(flag(last.is_some()))?;
+    let last = match last {
+        Some(lease) => lease.number(),
+        None => 0,
+    };
+    value.extend_from_slice(&last.to_be_bytes())?;
+    value.push(flag(held))?;
+    let mut batch = Batch::new(alloc);
+    batch.put(alloc, REPLICAS, repo.as_bytes(), value.as_slice())?;
+    Ok(batch)
+}
+
+fn put_ref(
+    alloc: Global,
+    batch: &mut Batch,
+    repo: &RepoPath,
+    name: &RefName,
+    id: &ObjectId,
+) -> Result<(), AllocError>
+    ensures { OnOk result
+        (batch.new ≡ batch.old ++ ref_change repo.now name.now (Some id.now) ∷ []) }
+{
+    let key = key_of(alloc, repo, name.as_bytes())?;
+    batch.put(alloc, REFS, key.as_slice(), &id.0)
+}
+
+fn remove_ref(
+    alloc: Global,
+    batch: &mut Batch,
+    repo: &RepoPath,
+    name: &RefName,
+) -> Result<(), AllocError>
+    ensures { OnOk result (batch.new ≡ batch.old ++ ref_change repo.now name.now None ∷ []) }
+{
+    let key = key_of(alloc, repo, name.as_bytes())?;
+    batch.remove(alloc, REFS, key.as_slice())
+}
+
+fn put_object(
+    alloc: Global,
+    batch: &mut Batch,
+    repo: &RepoPath,
+    object: &Object,
+) -> Result<(), AllocError>
+    ensures { OnOk result (batch.new ≡ batch.old ++ object_change repo.now object.now ∷ []) }
+{
+    let id = objstore::name_of(object.kind(), object.content());
+    let key = key_of(alloc, repo, &id.0)?;
+    let mut value = Bytes::new(alloc);
+    value.push(code_of(object.kind()))?;
+    value.extend_from_slice(object.content())?;
+    batch.put(alloc, OBJECTS, key.as_slice(), value.as_slice())
+}
+
+// Adds what an update changes.
+fn change_ref(
+    alloc: Global,
+    batch: &mut Batch,
+    repo: &RepoPath,
+    update: &Update,
+) -> Result<(), AllocError>
+    ensures { OnOk result
+        (batch.new ≡ batch.old ++ update_changes repo.now (update.now ∷ [])) }
+{
+    if update.new == update.old {
+        return Ok(());
+    }
+    if update.new.is_zero() {
+        return remove_ref(alloc, batch, repo, &update.name);
+    }
+    put_ref(alloc, batch, repo, &update.name, &update.new)
+}
+
+// Adds what updates change.
+fn add_updates(
+    alloc: Global,
+    batch: &mut Batch,
+    repo: &RepoPath,
+    updates: &[Update],
+) -> Result<(), AllocError>
+    ensures { OnOk result (batch.new ≡ batch.old ++ update_changes repo.now updates.now) }
+{
+    for update in updates {
+        change_ref(alloc, batch, repo, update)?;
+    }
+    Ok(())
+}
+
+/// Adds the objects that the store does not have.
+pub fn add_objects(
+    alloc: Global,
+    batch: &mut Batch,
+    repo: &RepoPath,
+    store: &Store,
+    objects: &[Object],
+) -> Result<(), AllocError>
+    ensures { OnOk result
+        (batch.new ≡ batch.old ++ coming_changes repo.now store.now objects.now) }
+{
+    for object in objects {
+        let id = objstore::name_of(object.kind(), object.content());
+        if store.get(&id).is_none() {
+            put_object(alloc, batch, repo, object)?;
+        }
+    }
+    Ok(())
+}
+
+/// Adds what a push changes.
+pub fn add_push(
+    alloc: Global,
+    batch: &mut Batch,
+    repo: &RepoPath,
+    store: &Store,
+    push: &Push,
+) -> Result<(), AllocError>
+    ensures { OnOk result (batch.new ≡ batch.old ++ update_changes repo.now push.now.updates
+        ++ coming_changes repo.now store.now push.now.objects) }
+{
+    add_updates(alloc, batch, repo, push.updates.as_slice())?;
+    add_objects(alloc, batch, repo, store, push.objects.as_slice())
+}
+
+/// Adds what changes where some references take the place of others.
+pub fn add_refs(
+    alloc: Global,
+    batch: &mut Batch,
+    repo: &RepoPath,
+    old: &Refs,
+    new: &Refs,
+) -> Result<(), AllocError>
+    ensures { OnOk result (batch.new ≡ batch.old ++ refs_changes repo.now old.now new.now) }
+{
+    remove_gone(alloc, batch, repo, old, new)?;
+    put_new(alloc, batch, repo, old, new)
+}
+
+// Adds that the references go that are not among the new ones.
+fn remove_gone(
+    alloc: Global,
+    batch: &mut Batch,
+    repo: &RepoPath,
+    old: &Refs,
+    new: &Refs,
+) -> Result<(), AllocError>
+    ensures { OnOk result (batch.new ≡ batch.old ++ gone_changes repo.now new.now old.now) }
+{
+    let list = old.list(alloc)?;
+    let pairs = list.as_slice();
+    for (name, _) in pairs {
+        if new.get(name).is_none() {
+            remove_ref(alloc, batch, repo, name)?;
+        }
+    }
+    Ok(())
+}
+
+// Adds the new references that are not there, or name another object there.
+fn put_new(
+    alloc: Global,
+    batch: &mut Batch,
+    repo: &RepoPath,
+    old: &Refs,
+    new: &Refs,
+) -> Result<(), AllocError>
+    ensures { OnOk result (batch.new ≡ batch.old ++ put_changes repo.now old.now new.now) }
+{
+    let list = new.list(alloc)?;
+    let pairs = list.as_slice();
+    for (name, id) in pairs {
+        if !has(old, name, id) {
+            put_ref(alloc, batch, repo, name, id)?;
+        }
+    }
+    Ok(())
+}
+
+// Whether the reference names this object.
+fn has(refs: &Refs, name: &RefName, id: &ObjectId) -> bool
+    ensures { result ≡ names (ref_at refs.now name.now) id.now }
+{
+    match refs.get(name) {
+        Some(have) => have == *id,
+        None => false,
+    }
+}
+
+/// Adds that all objects of a store go.
+pub fn remove_objects(
+    alloc: Global,
+    batch: &mut Batch,
+    repo: &RepoPath,
+    store: &Store,
+) -> Result<(), AllocError>
+    ensures { OnOk result (batch.new ≡ batch.old ++ objects_gone repo.now (keys_of store.now)) }
+{
+    let list = store.ids(alloc)?;
+    let ids = list.as_slice();
+    for id in ids {
+        let key = key_of(alloc, repo, &id.0)?;
+        batch.remove(alloc, OBJECTS, key.as_slice())?;
+    }
+    Ok(())
+}

@@ -1,10 +1,15 @@
 -- Calls under leases: which fences they pass, and that fences never fall.
-use Rattle.std.proofs.Common.{◌≡◌, ◌<◌, ◌≤◌, ◌+◌, ℕ, List, None, Result, Ok, Err, max, ap, arith, refl, inl, inr}
+use Rattle.std.proofs.Common.{◌≡◌, ◌<◌, ◌≤◌, ◌+◌, ℕ, List, Option, None, Some, false, nat_lt, Result, Ok, Err, max, ap, ◌∙◌, subst, ⊎_elim, arith, refl, inl, inr}
+use Rattle.std.specs.Option.{IfSome}
+use Rattle.std.proofs.Math.Nat.{max-eq_left}
+use Rattle.std.proofs.lemmas.Bool.{cond-false}
 use Rattle.std.proofs.lemmas.Bool.Decides.{nat_tests}
 use Rattle.px_node.proofs.StepLemmas.{Keeps, run_keeps, step_keeps}
 use Rattle.px_node.specs.Calls.{fenced}
-use Rattle.px_node.specs.Ends.{Ends, IsEither, Same}
-use Rattle.px_node.specs.Place.{NodeState, Place}
+use Rattle.node_rows.proofs.RowLemmas.{this_or_other}
+use Rattle.px_node.specs.Ends.{Ends, FenceEnds, IsEither, IsRaised}
+use Rattle.px_node.specs.Sound.{IsSound, IsSoundPlace, IsSoundPush}
+use Rattle.node_rows.specs.Place.{NodeState, Place, ReadyPush, Same, kept_above, raised}
 use Rattle.px_node.specs.Steps.{HasNoEffect, IsRun, IsStep}
 use Rattle.px_node.specs.declared.node.NodeError.{NodeError}
 use Rattle.px_node.specs.declared.node.NodeError.TheVariants.{Fault, Memory, Refused}
@@ -77,3 +82,45 @@ pub run_fences : (old new : NodeState) → IsRun old new → (path : List ℕ)
 run_fences old new run path =
     run_keeps FenceStays fences_stay
     (λ a b c below above. le_through a.fence b.fence c.fence below above) old new run path
+
+-- ---- a fence that is raised to a lease below it
+
+-- a push whose lease is the fence stays
+kept_same : (fence : ℕ) (ready : Option ReadyPush)
+    → IfSome ready (λ (push : ReadyPush). push.lease ≡ fence) → kept_above fence ready ≡ ready
+kept_same fence None is = refl
+kept_same fence (Some push) is = cond-false (nat_lt push.lease fence) None (Some push)
+    (let not_below : nat_lt push.lease fence ≡ false = grind (arith, nat_tests, is) in not_below)
+
+ready_at_fence : (place : Place) (ready : Option ReadyPush)
+    → IfSome ready (λ (push : ReadyPush). IsSoundPush place push)
+    → IfSome ready (λ (push : ReadyPush). push.lease ≡ place.fence)
+ready_at_fence place None sound = tt
+ready_at_fence place (Some push) sound = sound.fenced
+
+-- so all is as it was
+raised_same : (lease : ℕ) (place : Place) → IsSoundPlace place → lease < place.fence
+    → raised lease place ≡ place
+raised_same lease place sound below =
+    let same : max place.fence lease ≡ place.fence =
+    max-eq_left (let least : lease ≤ place.fence = omega (arith, below) in least) in
+    ap (λ (f : ℕ). record place { fence = f; ready = kept_above f place.ready }) same
+    ∙ ap (λ (r : Option ReadyPush). record place { ready = r })
+    (kept_same place.fence place.ready (ready_at_fence place place.ready sound.ready))
+
+pub fence_stays : (lease : ℕ) (path : List ℕ) (result : Result (Option ℕ) NodeError)
+    (old new : NodeState) → IsSound old → lease < (old path).fence
+    → FenceEnds lease path result old new → Same old new
+fence_stays lease path result old new sound below ends = at result ends
+  where
+    as_it_was : IsRaised lease path old new → Same old new
+    as_it_was changes q = ⊎_elim
+        (λ here. subst (λ (p : List ℕ). new p ≡ old p) here
+        (changes.here ∙ raised_same lease (old path) (sound path) below))
+        (λ same. same) (this_or_other old new path changes.others q)
+
+    at : (r : Result (Option ℕ) NodeError) → FenceEnds lease path r old new → Same old new
+    at (Ok last) e = as_it_was e.2
+    at (Err (Refused r)) e = as_it_was e.2
+    at (Err Fault) e = ⊎_elim (λ same. same) as_it_was e
+    at (Err Memory) e = ⊎_elim (λ same. same) as_it_was e

@@ -24,7 +24,7 @@ use Rattle.objstore.specs.Entries.{Entries, IsNamed, IsStore, is_id, object_at, 
 use Rattle.objstore.specs.Reach.{Objects}
 use Rattle.objstore.specs.declared.bundles.BundleFault.{BundleFault}
 use Rattle.objstore.specs.declared.bundles.BundleFault.TheVariants.{BadObject, Collision}
-use Rattle.px_node.proofs.OptionLemmas.{no_first, no_second}
+use Rattle.node_rows.proofs.OptionLemmas.{no_first, no_second}
 use Rattle.px_node.proofs.ReachLemmas.{HasAll}
 
 ids_laws : IsEquivalence is_id

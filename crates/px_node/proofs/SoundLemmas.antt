@@ -17,14 +17,14 @@ use Rattle.refstore.specs.Hook.{AreUpdates}
 use Rattle.refstore.specs.Updates.{after}
 use Rattle.px_node.proofs.FenceLemmas.{fence_passed}
 use Rattle.px_node.proofs.ObjectLemmas.{IsStore-all, has_coming, kept_by_all}
-use Rattle.px_node.proofs.OptionLemmas.{no_first, no_second}
+use Rattle.node_rows.proofs.OptionLemmas.{no_first, no_second}
 use Rattle.px_node.proofs.ReachLemmas.{IsClosedFrom, all_from_more, closed_by, closed_more}
 use Rattle.px_node.proofs.RefusalLemmas.{objects_come, updates_fit}
 use Rattle.px_node.proofs.StepLemmas.{Keeps, run_keeps, step_keeps}
 use Rattle.px_node.proofs.TipLemmas.{all_after}
-use Rattle.px_node.proofs.UpdateLemmas.{IsRefList-fits}
+use Rattle.node_rows.proofs.UpdateLemmas.{IsRefList-fits, name_stands}
 use Rattle.px_node.specs.Calls.{Aborts, Applies, Commits, Creates, Prepares, Removes, fenced, new_tips, not_held, ready_under, with_coming}
-use Rattle.px_node.specs.Place.{NodeState, Place, ReadyPush, kept_above, nothing, raised}
+use Rattle.node_rows.specs.Place.{NodeState, Place, ReadyPush, kept_above, nothing, raised}
 use Rattle.px_node.specs.Refusals.{of_bundle}
 use Rattle.px_node.specs.Sound.{IsSound, IsSoundPlace, IsSoundPush}
 use Rattle.px_node.specs.Steps.{IsRun, IsStep}
@@ -178,7 +178,8 @@ commits lease hash place answer then_ done sound =
     })
     (leases place sound) passed
     (IsStore-all place.objects 0 done.push.objects push.comes sound.store)
-    (IsRefList-fits place.refs done.push.updates sound.refs push.updates push.fits) push.closed)
+    (IsRefList-fits place.refs done.push.updates sound.refs
+    (name_stands done.push.updates push.updates) push.fits) push.closed)
 
 aborts : (lease : ℕ) (place : Place) (answer : Unit {0}) (then_ : Place)
     → Aborts lease place answer then_ → Sound place then_

@@ -10,10 +10,10 @@ use Rattle.px_base.specs.declared.hash.Hash.{Hash}
 use Rattle.px_base.specs.declared.push.Push.{Push}
 use Rattle.refstore.specs.Hook.{AreUpdates}
 use Rattle.px_node.specs.Calls.{Aborts, Applies, Commits, Creates, Prepares, Removes}
-use Rattle.px_node.specs.Ends.{Changes, Ends, FenceEnds, IsDone, IsEither, IsRaised, ListEnds, ReadEnds, Same}
-use Rattle.px_node.specs.Place.{NodeState, Place, raised}
+use Rattle.px_node.specs.Ends.{Ends, FenceEnds, IsDone, IsEither, IsRaised, ListEnds, ReadEnds}
+use Rattle.node_rows.specs.Place.{Changes, NodeState, Place, Same, raised, without_ready}
 use Rattle.px_node.specs.Reads.{HasObject, HasRefs, IsSnapshot}
-use Rattle.px_node.specs.Steps.{IsRun, IsStep, Runs, create, prepare, commit, abort, fence, refs, object, snapshot, apply, remove, list, ping, loses_ready, without_ready}
+use Rattle.px_node.specs.Steps.{IsRun, IsStep, Runs, create, prepare, commit, abort, fence, refs, object, snapshot, apply, remove, list, ping, loses_ready}
 use Rattle.px_node.specs.declared.node.NodeError.{NodeError}
 use Rattle.px_node.specs.declared.node.NodeError.TheVariants.{Fault, Memory, Refused}
 use Rattle.px_node.specs.declared.refusal.NodeRefusal.{NodeRefusal}

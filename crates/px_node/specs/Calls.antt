@@ -15,7 +15,7 @@ use Rattle.objstore.specs.Reach.{IsClosed, Objects}
 use Rattle.objstore.specs.Walk.{IsFirstMissing}
 use Rattle.refstore.specs.Hook.{vote_on}
 use Rattle.refstore.specs.Updates.{after, refusal_of}
-use Rattle.px_node.specs.Place.{Place, ReadyPush, raised}
+use Rattle.node_rows.specs.Place.{Place, ReadyPush, raised}
 use Rattle.px_node.specs.Refusals.{of_bundle, of_updates}
 use Rattle.px_node.specs.declared.refusal.NodeRefusal.{NodeRefusal}
 use Rattle.px_node.specs.declared.refusal.NodeRefusal.TheVariants.{Fenced, NoRepo, RepoExists, NotPrepared, VoteDiffers, Missing}

@@ -1,10 +1,10 @@
 -- How a call on a node ends, where the node tells what it has, and when it faults.
-use Rattle.std.specs.Prelude.{◌≡◌, ◌≢◌, ◌⊎◌, ◌≤◌, ℕ, true, false, List, Option, None, Some, Result, Ok, Err}
+use Rattle.std.specs.Prelude.{◌≡◌, ◌⊎◌, ◌≤◌, ℕ, true, false, List, Option, None, Some, Result, Ok, Err}
 use Rattle.std.specs.List.{list_any}
 use Rattle.px_base.specs.Causes.{Rose}
 use Rattle.px_base.specs.PathList.{IsPathList}
 use Rattle.px_base.specs.RefList.{is_name}
-use Rattle.px_node.specs.Place.{NodeState, Place, raised}
+use Rattle.node_rows.specs.Place.{Changes, NodeState, Place, Same, raised}
 use Rattle.px_node.specs.declared.node.NodeError.{NodeError}
 use Rattle.px_node.specs.declared.node.NodeError.TheVariants.{Fault, Memory, Refused}
 use Rattle.px_node.specs.declared.refusal.NodeRefusal.{NodeRefusal}
@@ -16,15 +16,6 @@ Told R None None = Unit {0}
 Told R (Some old) (Some new) = R old new
 Told R None (Some new) = ⊥
 Told R (Some old) None = ⊥
-
--- the node has of each repository what it had
-abbrev pub Same : NodeState → NodeState → Type 0
-Same old new = (path : List ℕ) → new path ≡ old path
-
--- it has this of the repository, and of each other what it had
-pub record Changes (old new : NodeState) (path : List ℕ) (place : Place) : Type 0 where
-  pub here : new path ≡ place
-  pub others : (other : List ℕ) → other ≢ path → new other ≡ old other
 
 -- ---- calls that change a repository
 

@@ -1,13 +1,12 @@
 -- What the calls on a node that only read answer.
-use Rattle.std.specs.Prelude.{◌≡◌, List, [], ◌∷◌, Option}
-use Rattle.std.specs.List.{cons_option}
+use Rattle.std.specs.Prelude.{◌≡◌, Option}
 use Rattle.std.specs.Map.{values_of}
 use Rattle.px_base.specs.Object.{GitObject}
 use Rattle.px_base.specs.RefList.{References}
 use Rattle.px_base.specs.declared.hash.Hash.{Hash}
 use Rattle.objstore.specs.Entries.{object_at}
 use Rattle.objstore.specs.Reached.{AreReached}
-use Rattle.px_node.specs.Place.{Place}
+use Rattle.node_rows.specs.Place.{Place}
 use Rattle.px_node.specs.declared.snapshot.Snapshot.{Snapshot}
 
 -- the references

@@ -7,7 +7,7 @@ use Rattle.objstore.specs.Entries.{IsStore, object_at}
 use Rattle.objstore.specs.Reach.{IsClosed}
 use Rattle.refstore.specs.Hook.{AreUpdates}
 use Rattle.refstore.specs.Updates.{Fits, after}
-use Rattle.px_node.specs.Place.{NodeState, Place, ReadyPush}
+use Rattle.node_rows.specs.Place.{NodeState, Place, ReadyPush}
 
 -- what holds of a push that is ready: its repository is held, and its lease is the fence; its
 -- updates may be done and its objects may come; and then all that the references lead to is there

@@ -1,5 +1,5 @@
 -- Calls on a node, one after the other.
-use Rattle.std.specs.Prelude.{◌≡◌, ℕ, List, [], ◌∷◌, Option, None, Result}
+use Rattle.std.specs.Prelude.{◌≡◌, ℕ, List, [], ◌∷◌, Option, Result}
 use Rattle.std.specs.Result.{IsErr}
 use Rattle.px_base.specs.Object.{GitObject}
 use Rattle.px_base.specs.RefList.{IsRefList, References}
@@ -7,8 +7,8 @@ use Rattle.px_base.specs.declared.hash.Hash.{Hash}
 use Rattle.px_base.specs.declared.push.Push.{Push}
 use Rattle.refstore.specs.Hook.{AreUpdates}
 use Rattle.px_node.specs.Calls.{AbortRefuses, Aborts, ApplyRefuses, Applies, CommitRefuses, Commits, CreateRefuses, Creates, PrepareRefuses, Prepares, RemoveRefuses, Removes}
-use Rattle.px_node.specs.Ends.{Ends, FenceEnds, ListEnds, PingEnds, ReadEnds, Same}
-use Rattle.px_node.specs.Place.{NodeState, Place}
+use Rattle.px_node.specs.Ends.{Ends, FenceEnds, ListEnds, PingEnds, ReadEnds}
+use Rattle.node_rows.specs.Place.{NodeState, Same, without_ready}
 use Rattle.px_node.specs.Reads.{HasObject, HasRefs, IsSnapshot}
 use Rattle.px_node.specs.declared.node.NodeError.{NodeError}
 use Rattle.px_node.specs.declared.snapshot.Snapshot.{Snapshot}
@@ -18,10 +18,6 @@ pub record HasNoEffect {A : Type 0} (result : Result A NodeError) (old new : Nod
   where
     pub failed : IsErr result
     pub same : Same old new
-
--- what it has without the push that is ready
-abbrev pub without_ready : Place → Place
-without_ready place = record place { ready = None }
 
 -- some call on a node led from the one to the other, whatever it answered, also a fault or want of
 -- memory; or the process of the node ended, and each push that was ready is lost. The updates of a

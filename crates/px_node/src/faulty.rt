@@ -1,8 +1,12 @@
 //! A node that faults at chosen calls.
 
-ghost use Rattle.std.specs.Prelude.{◌≡◌, ◌⊎◌, ◌≤◌, ℕ, Some, Err, IsTrue, IfErr, IfOk, IfSome};
+ghost use Rattle.std.specs.Prelude.{◌≡◌, ◌⊎◌, ◌↔◌, ◌≤◌, ℕ, Some, Err, IsSome, IsTrue, IfErr, IfOk, IfSome};
 ghost use Rattle.px_base.specs.Causes.{one_more, Rose};
-ghost use Rattle.px_node.specs.Ends.{NodeHasCause};
+ghost use Rattle.px_node.specs.Calls.{AbortRefuses, Aborts, ApplyRefuses, Applies, CommitRefuses, Commits, CreateRefuses, Creates, PrepareRefuses, Prepares, RemoveRefuses, Removes};
+ghost use Rattle.px_node.specs.Ends.{Ends, FenceEnds, ListEnds, NodeHasCause, PingEnds, ReadEnds, Told};
+ghost use Rattle.px_node.specs.Faulty.{IsPlanned};
+ghost use Rattle.px_node.specs.Reads.{HasObject, HasRefs, IsSnapshot};
+ghost use Rattle.px_node.specs.Refusals.{MayAnswer, Abort, Apply, Ask, Commit, Create, Fence, Prepare, Read, Remove};
 
 use crate::{Node, NodeError, Snapshot};
 use px_base::{Hash, Lease, Object, ObjectId, PathList, Push, RefList, RepoPath};
@@ -25,6 +29,18 @@ pub struct PlannedFault {
     pub call: u64,
     /// When it faults.
     pub when: When,
+}
+
+// When the call of this number is to fault, if it is.
+fn planned_at(planned: &[PlannedFault], call: u64) -> Option<When>
+    ensures { IsSome result ↔ IsPlanned planned.now call }
+{
+    for fault in planned {
+        if fault.call == call {
+            return Some(fault.when);
+        }
+    }
+    None
 }
 
 /// A node behind which another one does the work, and which faults at the planned calls. A fault of
@@ -62,13 +78,13 @@ impl<N: Node + Drop> FaultyNode<N> {
 
     // Counts a call, and says whether it is to fault, and when.
     fn next(&mut self) -> Option<When>
+        ensures planned { IsPlanned self.old.planned.items (one_more self.old.calls)
+            ↔ IsSome result }
         ensures inner { self.new.inner ≡ self.old.inner }
         ensures faults { self.new.faults ≡ self.old.faults }
     {
         self.calls = self.calls.saturating_add(1);
-        let calls = self.calls;
-        let fault = self.planned.iter().find(|fault| fault.call == calls);
-        fault.map(|fault| fault.when)
+        planned_at(&self.planned, self.calls)
     }
 
     // Counts a fault.
@@ -89,9 +105,10 @@ impl<N: Node + Drop> FaultyNode<N> {
     ) -> Result<A, NodeError>
         ensures inner { self.new.inner ≡ self.old.inner }
         ensures answer { (result ≡ answer) ⊎ (result ≡ Err NodeError.Fault) }
+        ensures planned { IsSome planned → result ≡ Err NodeError.Fault }
         ensures cause { NodeHasCause self.old.faults self.new.faults result }
     {
-        if planned == Some(When::After) {
+        if planned.is_some() {
             return Err(self.fail());
         }
         match answer {
@@ -107,7 +124,14 @@ impl<N: Node + Drop> Node for FaultyNode<N> {
 
     ghost node_faults = { λ f. f.faults };
 
-    fn create(&mut self, alloc: Global, repo: &RepoPath, lease: Lease) -> Result<(), NodeError> {
+    fn create(&mut self, alloc: Global, repo: &RepoPath, lease: Lease) -> Result<(), NodeError>
+        ensures ends { Told (Ends (CreateRefuses lease) (Creates lease) repo.now result)
+            (N.node self.old.inner) (N.node self.new.inner) }
+        ensures known { IfErr result (MayAnswer Create) }
+        ensures cause { NodeHasCause self.old.faults self.new.faults result }
+        ensures planned { IsPlanned self.old.planned.items (one_more self.old.calls)
+            → result ≡ Err NodeError.Fault }
+    {
         let planned = self.next();
         if planned == Some(When::Before) {
             return Err(self.fail());
@@ -122,7 +146,15 @@ impl<N: Node + Drop> Node for FaultyNode<N> {
         repo: &RepoPath,
         lease: Lease,
         push: &Push,
-    ) -> Result<Hash, NodeError> {
+    ) -> Result<Hash, NodeError>
+        ensures ends { Told (Ends (PrepareRefuses lease push.now) (Prepares lease push.now)
+            repo.now result)
+            (N.node self.old.inner) (N.node self.new.inner) }
+        ensures known { IfErr result (MayAnswer Prepare) }
+        ensures cause { NodeHasCause self.old.faults self.new.faults result }
+        ensures planned { IsPlanned self.old.planned.items (one_more self.old.calls)
+            → result ≡ Err NodeError.Fault }
+    {
         let planned = self.next();
         if planned == Some(When::Before) {
             return Err(self.fail());
@@ -137,7 +169,15 @@ impl<N: Node + Drop> Node for FaultyNode<N> {
         repo: &RepoPath,
         lease: Lease,
         verdict: &Verdict,
-    ) -> Result<Hash, NodeError> {
+    ) -> Result<Hash, NodeError>
+        ensures ends { Told (Ends (CommitRefuses lease verdict.now.hash)
+            (Commits lease verdict.now.hash) repo.now result)
+            (N.node self.old.inner) (N.node self.new.inner) }
+        ensures known { IfErr result (MayAnswer Commit) }
+        ensures cause { NodeHasCause self.old.faults self.new.faults result }
+        ensures planned { IsPlanned self.old.planned.items (one_more self.old.calls)
+            → result ≡ Err NodeError.Fault }
+    {
         let planned = self.next();
         if planned == Some(When::Before) {
             return Err(self.fail());
@@ -146,7 +186,14 @@ impl<N: Node + Drop> Node for FaultyNode<N> {
         self.end(planned, answer)
     }
 
-    fn abort(&mut self, alloc: Global, repo: &RepoPath, lease: Lease) -> Result<(), NodeError> {
+    fn abort(&mut self, alloc: Global, repo: &RepoPath, lease: Lease) -> Result<(), NodeError>
+        ensures ends { Told (Ends (AbortRefuses lease) (Aborts lease) repo.now result)
+            (N.node self.old.inner) (N.node self.new.inner) }
+        ensures known { IfErr result (MayAnswer Abort) }
+        ensures cause { NodeHasCause self.old.faults self.new.faults result }
+        ensures planned { IsPlanned self.old.planned.items (one_more self.old.calls)
+            → result ≡ Err NodeError.Fault }
+    {
         let planned = self.next();
         if planned == Some(When::Before) {
             return Err(self.fail());
@@ -160,7 +207,14 @@ impl<N: Node + Drop> Node for FaultyNode<N> {
         alloc: Global,
         repo: &RepoPath,
         lease: Lease,
-    ) -> Result<Option<Lease>, NodeError> {
+    ) -> Result<Option<Lease>, NodeError>
+        ensures ends { Told (FenceEnds lease repo.now result)
+            (N.node self.old.inner) (N.node self.new.inner) }
+        ensures known { IfErr result (MayAnswer Fence) }
+        ensures cause { NodeHasCause self.old.faults self.new.faults result }
+        ensures planned { IsPlanned self.old.planned.items (one_more self.old.calls)
+            → result ≡ Err NodeError.Fault }
+    {
         let planned = self.next();
         if planned == Some(When::Before) {
             return Err(self.fail());
@@ -169,7 +223,14 @@ impl<N: Node + Drop> Node for FaultyNode<N> {
         self.end(planned, answer)
     }
 
-    fn refs(&mut self, alloc: Global, repo: &RepoPath) -> Result<RefList, NodeError> {
+    fn refs(&mut self, alloc: Global, repo: &RepoPath) -> Result<RefList, NodeError>
+        ensures ends { Told (ReadEnds HasRefs repo.now result)
+            (N.node self.old.inner) (N.node self.new.inner) }
+        ensures known { IfErr result (MayAnswer Read) }
+        ensures cause { NodeHasCause self.old.faults self.new.faults result }
+        ensures planned { IsPlanned self.old.planned.items (one_more self.old.calls)
+            → result ≡ Err NodeError.Fault }
+    {
         let planned = self.next();
         if planned == Some(When::Before) {
             return Err(self.fail());
@@ -183,7 +244,14 @@ impl<N: Node + Drop> Node for FaultyNode<N> {
         alloc: Global,
         repo: &RepoPath,
         id: &ObjectId,
-    ) -> Result<Option<Object>, NodeError> {
+    ) -> Result<Option<Object>, NodeError>
+        ensures ends { Told (ReadEnds (HasObject id.now) repo.now result)
+            (N.node self.old.inner) (N.node self.new.inner) }
+        ensures known { IfErr result (MayAnswer Read) }
+        ensures cause { NodeHasCause self.old.faults self.new.faults result }
+        ensures planned { IsPlanned self.old.planned.items (one_more self.old.calls)
+            → result ≡ Err NodeError.Fault }
+    {
         let planned = self.next();
         if planned == Some(When::Before) {
             return Err(self.fail());
@@ -192,7 +260,14 @@ impl<N: Node + Drop> Node for FaultyNode<N> {
         self.end(planned, answer)
     }
 
-    fn snapshot(&mut self, alloc: Global, repo: &RepoPath) -> Result<Snapshot, NodeError> {
+    fn snapshot(&mut self, alloc: Global, repo: &RepoPath) -> Result<Snapshot, NodeError>
+        ensures ends { Told (ReadEnds IsSnapshot repo.now result)
+            (N.node self.old.inner) (N.node self.new.inner) }
+        ensures known { IfErr result (MayAnswer Read) }
+        ensures cause { NodeHasCause self.old.faults self.new.faults result }
+        ensures planned { IsPlanned self.old.planned.items (one_more self.old.calls)
+            → result ≡ Err NodeError.Fault }
+    {
         let planned = self.next();
         if planned == Some(When::Before) {
             return Err(self.fail());
@@ -207,7 +282,15 @@ impl<N: Node + Drop> Node for FaultyNode<N> {
         repo: &RepoPath,
         lease: Lease,
         snapshot: &Snapshot,
-    ) -> Result<(), NodeError> {
+    ) -> Result<(), NodeError>
+        ensures ends { Told (Ends (ApplyRefuses lease snapshot.now) (Applies lease snapshot.now)
+            repo.now result)
+            (N.node self.old.inner) (N.node self.new.inner) }
+        ensures known { IfErr result (MayAnswer Apply) }
+        ensures cause { NodeHasCause self.old.faults self.new.faults result }
+        ensures planned { IsPlanned self.old.planned.items (one_more self.old.calls)
+            → result ≡ Err NodeError.Fault }
+    {
         let planned = self.next();
         if planned == Some(When::Before) {
             return Err(self.fail());
@@ -216,7 +299,14 @@ impl<N: Node + Drop> Node for FaultyNode<N> {
         self.end(planned, answer)
     }
 
-    fn remove(&mut self, alloc: Global, repo: &RepoPath, lease: Lease) -> Result<(), NodeError> {
+    fn remove(&mut self, alloc: Global, repo: &RepoPath, lease: Lease) -> Result<(), NodeError>
+        ensures ends { Told (Ends (RemoveRefuses lease) (Removes lease) repo.now result)
+            (N.node self.old.inner) (N.node self.new.inner) }
+        ensures known { IfErr result (MayAnswer Remove) }
+        ensures cause { NodeHasCause self.old.faults self.new.faults result }
+        ensures planned { IsPlanned self.old.planned.items (one_more self.old.calls)
+            → result ≡ Err NodeError.Fault }
+    {
         let planned = self.next();
         if planned == Some(When::Before) {
             return Err(self.fail());
@@ -225,7 +315,14 @@ impl<N: Node + Drop> Node for FaultyNode<N> {
         self.end(planned, answer)
     }
 
-    fn list(&mut self, alloc: Global) -> Result<PathList, NodeError> {
+    fn list(&mut self, alloc: Global) -> Result<PathList, NodeError>
+        ensures ends { Told (ListEnds result)
+            (N.node self.old.inner) (N.node self.new.inner) }
+        ensures known { IfErr result (MayAnswer Ask) }
+        ensures cause { NodeHasCause self.old.faults self.new.faults result }
+        ensures planned { IsPlanned self.old.planned.items (one_more self.old.calls)
+            → result ≡ Err NodeError.Fault }
+    {
         let planned = self.next();
         if planned == Some(When::Before) {
             return Err(self.fail());
@@ -234,7 +331,14 @@ impl<N: Node + Drop> Node for FaultyNode<N> {
         self.end(planned, answer)
     }
 
-    fn ping(&mut self) -> Result<(), NodeError> {
+    fn ping(&mut self) -> Result<(), NodeError>
+        ensures ends { Told (PingEnds)
+            (N.node self.old.inner) (N.node self.new.inner) }
+        ensures known { IfErr result (MayAnswer Ask) }
+        ensures cause { NodeHasCause self.old.faults self.new.faults result }
+        ensures planned { IsPlanned self.old.planned.items (one_more self.old.calls)
+            → result ≡ Err NodeError.Fault }
+    {
         let planned = self.next();
         if planned == Some(When::Before) {
             return Err(self.fail());

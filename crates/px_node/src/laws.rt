@@ -1,19 +1,20 @@
 //! What is true of every call on a node, and of all calls one after the other. A law is a function
 //! with nothing in it: what it ensures is proved for all values.
 
-ghost use Rattle.std.specs.Prelude.{ℕ, ◌<◌, ◌≤◌, List, Result};
+ghost use Rattle.std.specs.Prelude.{ℕ, ◌<◌, ◌≤◌, List, Option, Result};
 ghost use Rattle.px_base.specs.declared.hash.Hash.{Hash};
 ghost use Rattle.px_base.specs.declared.push.Push.{Push};
 ghost use Rattle.px_node.specs.Calls.{AbortRefuses, Aborts, ApplyRefuses, Applies, CommitRefuses, Commits, CreateRefuses, Creates, PrepareRefuses, Prepares, RemoveRefuses, Removes};
-ghost use Rattle.px_node.specs.Ends.{Ends};
-ghost use Rattle.px_node.specs.Place.{NodeState, nothing};
+ghost use Rattle.px_node.specs.Ends.{Ends, FenceEnds};
+ghost use Rattle.node_rows.specs.Place.{NodeState, Same, nothing};
 ghost use Rattle.px_node.specs.Sound.{IsSound, IsSoundPlace};
 ghost use Rattle.px_node.specs.Steps.{HasNoEffect, IsRun, IsStep};
 ghost use Rattle.px_node.specs.declared.node.NodeError.{NodeError};
 ghost use Rattle.px_node.specs.declared.snapshot.Snapshot.{Snapshot};
 
-/// A call whose lease is below the fence of its repository changes nothing, and is not done, also
-/// where it ends in a fault or for want of memory. So what comes late does no harm.
+/// An effect whose lease is below the fence of its repository changes nothing, and is not done, also
+/// where it ends in a fault or for want of memory. So what comes late does no harm. To raise the
+/// fence to such a lease changes nothing either.
 pub fn what_is_below_the_fence_changes_nothing()
     ensures create { (lease : ℕ) (path : List ℕ) (result : Result (Unit {0}) NodeError)
         (old new : NodeState) → lease < (old path).fence
@@ -31,6 +32,9 @@ pub fn what_is_below_the_fence_changes_nothing()
         (old new : NodeState) → lease < (old path).fence
         → Ends (AbortRefuses lease) (Aborts lease) path result old new
         → HasNoEffect result old new }
+    ensures fence { (lease : ℕ) (path : List ℕ) (result : Result (Option ℕ) NodeError)
+        (old new : NodeState) → IsSound old → lease < (old path).fence
+        → FenceEnds lease path result old new → Same old new }
     ensures apply { (lease : ℕ) (given : Snapshot) (path : List ℕ)
         (result : Result (Unit {0}) NodeError)
         (old new : NodeState) → lease < (old path).fence

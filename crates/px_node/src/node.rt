@@ -3,7 +3,7 @@
 ghost use Rattle.std.specs.Prelude.{◌≡◌, ℕ, Option, IfErr};
 ghost use Rattle.px_node.specs.Calls.{AbortRefuses, Aborts, ApplyRefuses, Applies, CommitRefuses, Commits, CreateRefuses, Creates, PrepareRefuses, Prepares, RemoveRefuses, Removes};
 ghost use Rattle.px_node.specs.Ends.{Ends, FenceEnds, ListEnds, NodeHasCause, PingEnds, ReadEnds, Told};
-ghost use Rattle.px_node.specs.Place.{NodeState};
+ghost use Rattle.node_rows.specs.Place.{NodeState};
 ghost use Rattle.px_node.specs.Reads.{HasObject, HasRefs, IsSnapshot};
 ghost use Rattle.px_node.specs.Refusals.{MayAnswer, Abort, Apply, Ask, Commit, Create, Fence, Prepare, Read, Remove};
 

@@ -1,6 +1,6 @@
 -- No call is done whose lease is below the fence.
-use Rattle.px_node.proofs.FenceLemmas.{never_below, never_done}
-use Rattle.px_node.proofs.OptionLemmas.{no_first}
+use Rattle.px_node.proofs.FenceLemmas.{fence_stays, never_below, never_done}
+use Rattle.node_rows.proofs.OptionLemmas.{no_first}
 use Rattle.px_node.proofs.laws.what_is_below_the_fence_changes_nothing.Goals as goal
 
 pub returns : goal.returns
@@ -21,6 +21,7 @@ returns c = record {
       never_done _ _ path old new
       (λ answer place done. never_below lease (old path) below (no_first _ _ done.accepted))
       result ends;
+  fence = fence_stays;
   apply = λ lease given path result old new below ends.
       never_done _ _ path old new
       (λ answer place done. never_below lease (old path) below (no_first _ _ done.accepted))

@@ -1,0 +1,116 @@
+-- What is under a path once a replica was put there, or changed.
+use Rattle.std.proofs.Common.{◌≡◌, ℕ, List, true, false, cond, Option, Some, None, refl, sym, ap, ◌∙◌, subst, ⊎_elim}
+use Rattle.std.specs.Map.{lookup}
+use Rattle.std.specs.Option.{is_some, unwrap_or}
+use Rattle.std.proofs.lemmas.Bool.{cases_Bool, cond-false, cond-true}
+use Rattle.px_base.specs.RefList.{is_name}
+use Rattle.std.specs.Prelude.{Result, Ok, Err, OnOk, OnErr, IfOk}
+use Rattle.px_base.specs.declared.hash.Hash.{Hash}
+use Rattle.px_node.specs.Effects.{CommitsAt, DoesReady}
+use Rattle.node_rows.specs.Place.{Changes, Place, Same, nothing}
+use Rattle.px_node.specs.Shelf.{Replicas, place_at}
+use Rattle.node_rows.proofs.Paths.{one_path, other_path, paths_laws}
+
+-- under the path stands this, and all else is as before
+abbrev pub Puts : Replicas → Replicas → List ℕ → Place → Type 0
+Puts old new path place = (q : List ℕ)
+    → lookup (is_name q) new ≡ cond (is_name path q) (Some place) (lookup (is_name q) old)
+
+-- so the node has it
+pub Changes-put : (old new : Replicas) (path : List ℕ) (place : Place) → Puts old new path place
+    → Changes (place_at old) (place_at new) path place
+Changes-put old new path place puts = record {
+  here = ap (λ (o : Option Place). unwrap_or o nothing) (puts path
+      ∙ cond-true (is_name path path) (Some place) (lookup (is_name path) old)
+      (paths_laws.refl path));
+  others = λ q differs. ap (λ (o : Option Place). unwrap_or o nothing) (puts q
+      ∙ cond-false (is_name path q) (Some place) (lookup (is_name q) old)
+      (other_path path q differs));
+}
+
+-- nothing put where there was nothing changes nothing
+pub Same-put : (old new : Replicas) (path : List ℕ) → lookup (is_name path) old ≡ None
+    → Puts old new path nothing → Same (place_at old) (place_at new)
+Same-put old new path none puts q = ⊎_elim
+    (λ t. ap (λ (o : Option Place). unwrap_or o nothing) (puts q
+    ∙ cond-true (is_name path q) (Some nothing) (lookup (is_name q) old) t)
+    ∙ ap (λ (o : Option Place). unwrap_or o nothing)
+    (sym (subst (λ (p : List ℕ). lookup (is_name p) old ≡ None) (one_path path q t) none)))
+    (λ f. ap (λ (o : Option Place). unwrap_or o nothing) (puts q
+    ∙ cond-false (is_name path q) (Some nothing) (lookup (is_name q) old) f))
+    (cases_Bool (is_name path q))
+
+-- ---- what a look-up of the code tells
+
+-- what was found under the bytes of a path is there
+pub place_here : (replicas : Replicas) (path bytes : List ℕ) (place : Place) → bytes ≡ path
+    → Some place ≡ lookup (is_name bytes) replicas → place_at replicas path ≡ place
+place_here replicas path bytes place same found =
+    ap (λ (o : Option Place). unwrap_or o nothing)
+    (sym (found ∙ ap (λ (p : List ℕ). lookup (is_name p) replicas) same))
+
+-- where it was changed, and then written back, the node has what it was changed to
+pub Changes-back : (old new : Replicas) (path bytes : List ℕ) (place after : Place)
+    (does : Place → Place) → bytes ≡ path → Some place ≡ lookup (is_name bytes) old
+    → after ≡ does place → Puts old new bytes after
+    → Changes (place_at old) (place_at new) path (does (place_at old path))
+Changes-back old new path bytes place after does same found done puts =
+    let is : after ≡ does (place_at old path) =
+    done ∙ ap does (sym (place_here old path bytes place same found)) in
+    subst (λ (p : Place). Changes (place_at old) (place_at new) path p) is
+    (Changes-put old new path after
+    (subst (λ (p : List ℕ). Puts old new p after) same puts))
+
+-- there is none where the test says so
+pub none_from_test : (found : Option Place) → is_some found ≡ false → found ≡ None
+none_from_test None t = refl
+none_from_test (Some place) t = absurd (cc)
+
+-- where it was changed to what it was, nothing has changed
+Same-Changes : (old new : Replicas) (path : List ℕ)
+    → Changes (place_at old) (place_at new) path (place_at old path)
+    → Same (place_at old) (place_at new)
+Same-Changes old new path changes q = ⊎_elim
+    (λ t. subst (λ (p : List ℕ). place_at new p ≡ place_at old p) (one_path path q t) changes.here)
+    (λ f. changes.others q (λ e. absurd (
+    let t : is_name path q ≡ true =
+    ap (is_name path) e ∙ paths_laws.refl path in
+    cc)))
+    (cases_Bool (is_name path q))
+
+pub Same-back : (old new : Replicas) (path bytes : List ℕ) (place after : Place) → bytes ≡ path
+    → Some place ≡ lookup (is_name bytes) old → after ≡ place → Puts old new bytes after
+    → Same (place_at old) (place_at new)
+Same-back old new path bytes place after same found done puts =
+    Same-Changes old new path
+    (Changes-back old new path bytes place after (λ (p : Place). p) same found done puts)
+
+-- ---- what an answer tells, in other words
+
+pub OnOk-on : {A E : Type 0} (P Q : Type 0) (r : Result A E) → (P → Q) → OnOk r P → OnOk r Q
+OnOk-on P Q (Ok a) on h = on h
+OnOk-on P Q (Err e) on h = tt
+
+pub OnErr-on : {A E : Type 0} (P Q : Type 0) (r : Result A E) → (P → Q) → OnErr r P → OnErr r Q
+OnErr-on P Q (Ok a) on h = tt
+OnErr-on P Q (Err e) on h = on h
+
+pub IfOk-on : {A E : Type 0} (P Q : A → Type 0) (r : Result A E) → ((a : A) → P a → Q a)
+    → IfOk r P → IfOk r Q
+IfOk-on P Q (Ok a) on h = on a h
+IfOk-on P Q (Err e) on h = tt
+
+-- ---- a commit
+
+-- what a replica did, the node did
+pub CommitsAt-back : (lease : ℕ) (old new : Replicas) (path bytes : List ℕ) (place after : Place)
+    (vote : Hash) → bytes ≡ path → Some place ≡ lookup (is_name bytes) old
+    → Puts old new bytes after → DoesReady lease place after vote
+    → CommitsAt lease path (place_at old) (place_at new) vote
+CommitsAt-back lease old new path bytes place after vote same found puts does = record {
+  place = after;
+  does_ = subst (λ (p : Place). DoesReady lease p after vote)
+      (sym (place_here old path bytes place same found)) does;
+  changes = Changes-put old new path after
+      (subst (λ (p : List ℕ). Puts old new p after) same puts);
+}

@@ -1,0 +1,41 @@
+-- What a shelf has of each repository.
+use Rattle.std.specs.Prelude.{◌≡◌, ℕ, List, IsSome, Option, Some}
+use Rattle.std.specs.Map.{lookup}
+use Rattle.std.specs.Option.{option_map, unwrap_or}
+use Rattle.px_base.specs.RefList.{is_name}
+use Rattle.px_base.specs.RepoPath.{IsRepoPath}
+use Rattle.px_keeper.specs.Change.{applied}
+use Rattle.px_keeper.specs.Row.{Rows}
+use Rattle.px_keeper.specs.declared.change.Change.{Change}
+use Rattle.node_rows.specs.Lawful.{IsLawfulPlace}
+use Rattle.node_rows.specs.Place.{NodeState, Place, Same, nothing}
+use Rattle.node_rows.specs.Rows.{StandFor}
+
+-- replicas under their paths, in the order of the paths
+abbrev pub Replicas : Type 0
+Replicas = List (List ℕ × Place)
+
+-- what is there under a path, and nothing where the path is not there
+abbrev pub place_at : Replicas → NodeState
+place_at replicas path = unwrap_or (lookup (is_name path) replicas) nothing
+
+-- under each path is what a place may have, and only under paths is there anything
+pub record AreLawful (replicas : Replicas) : Type 0 where
+  pub places : (path : List ℕ) → IsLawfulPlace (place_at replicas path)
+  pub paths : (path : List ℕ) → IsSome (lookup (is_name path) replicas) → IsRepoPath path
+
+-- ---- the rows of its keeper, where the keeper tells them
+
+-- they stand for the node
+abbrev pub RowsStand : Option Rows → NodeState → Type 0
+RowsStand kept node = (rows : Rows) → kept ≡ Some rows → StandFor rows node
+
+-- the batch was kept
+abbrev pub Keeps : List Change → Option Rows → Option Rows → Type 0
+Keeps batch old new = new ≡ option_map (λ rows. applied rows batch) old
+
+-- ---- calls that were not done
+
+-- the node has of each repository what it had, and the keeper its rows
+abbrev pub Stays : NodeState → NodeState → Option Rows → Option Rows → Type 0
+Stays old new rows rows' = Same old new × (rows' ≡ rows)

@@ -1,190 +1,109 @@
-//! Nodes that fault at chosen calls.
+//! Nodes that fault at chosen calls, and nodes whose keeper fails.
 
-use px_base::{Hash, Lease, Object, ObjectId, Objects, PathList, Push, RefList, RepoPath, Updates};
-use px_node::{FaultyNode, Node, NodeError, NodeRefusal, PlannedFault, Snapshot, When};
+use crate::keeper::rows;
+use crate::shelf::answer;
+use px_keeper::MemKeeper;
+use px_node::{FaultyNode, Node, PlannedFault, Shelf, When};
 use std::alloc::Global;
 use std::test::Fail;
-use voters::Verdict;
 
-// A node that tells nothing, holds nothing, and counts what it was asked.
-#[derive(Drop)]
-struct Counting {
-    asked: u64,
-}
+// A repository with a push that is on its way, and who asks what became of it.
+const LINES: [&str; 3] = [
+    "create x.git 1",
+    "prepare x.git 2 none blob refs/tags/empty +blob",
+    "commit x.git 2 vote",
+];
 
-impl Counting {
-    fn ask(&mut self) {
-        self.asked = self.asked.saturating_add(1);
+// The answers to these lines and to a fence behind them, where a call faults.
+fn answers(alloc: Global, call: u64, when: When) -> Result<String, Fail> {
+    let mut planned = Vec::new(alloc);
+    planned.push(PlannedFault { call, when })?;
+    let shelf = Shelf::new(alloc, MemKeeper::new(alloc, Vec::new(alloc)));
+    let mut node = FaultyNode::new(shelf, planned);
+    let mut told = String::new(alloc);
+    for line in LINES {
+        told.push_str(answer(alloc, &mut node, line)?.as_str())?;
+        told.push_str(", ")?;
     }
-}
-
-impl Node for Counting {
-    ghost use Rattle.std.specs.Prelude.{None};
-
-    ghost node = { λ _. None };
-
-    ghost node_faults = { λ _. 0 };
-
-    fn create(&mut self, _: Global, _: &RepoPath, _: Lease) -> Result<(), NodeError> {
-        self.ask();
-        Ok(())
-    }
-
-    fn prepare(&mut self, _: Global, _: &RepoPath, _: Lease, _: &Push) -> Result<Hash, NodeError> {
-        self.ask();
-        Ok(Hash([7; 20]))
-    }
-
-    fn commit(
-        &mut self,
-        _: Global,
-        _: &RepoPath,
-        _: Lease,
-        verdict: &Verdict,
-    ) -> Result<Hash, NodeError> {
-        self.ask();
-        Ok(verdict.hash())
-    }
-
-    fn abort(&mut self, _: Global, _: &RepoPath, _: Lease) -> Result<(), NodeError> {
-        self.ask();
-        Ok(())
-    }
-
-    fn fence(&mut self, _: Global, _: &RepoPath, lease: Lease) -> Result<Option<Lease>, NodeError> {
-        self.ask();
-        Ok(Some(lease))
-    }
-
-    fn refs(&mut self, _: Global, _: &RepoPath) -> Result<RefList, NodeError> {
-        self.ask();
-        Err(NodeError::Refused(NodeRefusal::NoRepo))
-    }
-
-    fn object(
-        &mut self,
-        _: Global,
-        _: &RepoPath,
-        _: &ObjectId,
-    ) -> Result<Option<Object>, NodeError> {
-        self.ask();
-        Ok(None)
-    }
-
-    fn snapshot(&mut self, alloc: Global, _: &RepoPath) -> Result<Snapshot, NodeError> {
-        self.ask();
-        Ok(Snapshot {
-            refs: RefList::new(alloc),
-            objects: Objects::new(alloc),
-        })
-    }
-
-    fn apply(&mut self, _: Global, _: &RepoPath, _: Lease, _: &Snapshot) -> Result<(), NodeError> {
-        self.ask();
-        Ok(())
-    }
-
-    fn remove(&mut self, _: Global, _: &RepoPath, _: Lease) -> Result<(), NodeError> {
-        self.ask();
-        Ok(())
-    }
-
-    fn list(&mut self, alloc: Global) -> Result<PathList, NodeError> {
-        self.ask();
-        Ok(PathList::new(alloc))
-    }
-
-    fn ping(&mut self) -> Result<(), NodeError> {
-        self.ask();
-        Ok(())
-    }
-
-    fn faults(&self) -> u64 {
-        0
-    }
-}
-
-// Makes each call on a node once, and gives how many were answered with a fault.
-fn faults_of<N: Node>(alloc: Global, node: &mut N) -> Result<u64, Fail> {
-    let repo = RepoPath::read(alloc, b"x.git")?;
-    let (Some(lease), Some(verdict)) = (Lease::new(2), Verdict::of(Hash([7; 20]), 2, 2, 3)) else {
-        return Err(Fail::new("no lease, or no verdict"));
-    };
-    let push = Push {
-        updates: Updates::new(alloc),
-        objects: Objects::new(alloc),
-    };
-    let snapshot = Snapshot {
-        refs: RefList::new(alloc),
-        objects: Objects::new(alloc),
-    };
-    let ends = [
-        matches!(node.create(alloc, &repo, lease), Err(NodeError::Fault)),
-        matches!(
-            node.prepare(alloc, &repo, lease, &push),
-            Err(NodeError::Fault)
-        ),
-        matches!(
-            node.commit(alloc, &repo, lease, &verdict),
-            Err(NodeError::Fault)
-        ),
-        matches!(node.abort(alloc, &repo, lease), Err(NodeError::Fault)),
-        matches!(node.fence(alloc, &repo, lease), Err(NodeError::Fault)),
-        matches!(node.refs(alloc, &repo), Err(NodeError::Fault)),
-        matches!(
-            node.object(alloc, &repo, &Hash([1; 20])),
-            Err(NodeError::Fault)
-        ),
-        matches!(node.snapshot(alloc, &repo), Err(NodeError::Fault)),
-        matches!(
-            node.apply(alloc, &repo, lease, &snapshot),
-            Err(NodeError::Fault)
-        ),
-        matches!(node.remove(alloc, &repo, lease), Err(NodeError::Fault)),
-        matches!(node.list(alloc), Err(NodeError::Fault)),
-        matches!(node.ping(), Err(NodeError::Fault)),
-    ];
-    let mut faults = 0u64;
-    for fault in ends {
-        if fault {
-            faults = faults.saturating_add(1);
-        }
-    }
-    Ok(faults)
+    told.push_str(answer(alloc, &mut node, "fence x.git 3")?.as_str())?;
+    Ok(told)
 }
 
 #[test]
 fn a_planned_fault_comes_before_the_effect_or_after_it(rt: HostRuntime) -> Result<(), Fail> {
     let alloc = rt.alloc();
-    let mut planned = Vec::new(alloc);
-    for (call, when) in [
-        (2, When::Before),
-        (4, When::After),
-        (12, When::After),
-        (30, When::Before),
-    ] {
-        planned.push(PlannedFault { call, when })?;
+    let table = [
+        (9, When::Before, "ok, vote, vote, last 2"),
+        (3, When::Before, "ok, vote, fault, last -"),
+        (3, When::After, "ok, vote, fault, last 2"),
+        (2, When::Before, "ok, fault, not prepared, last -"),
+        (2, When::After, "ok, fault, vote, last 2"),
+        (1, When::Before, "fault, no repo, no repo, no repo"),
+        (4, When::After, "ok, vote, vote, fault"),
+    ];
+    for (call, when, want) in table {
+        let told = answers(alloc, call, when)?;
+        assert_eq!(rt; told.as_str(), want);
     }
-    let mut node = FaultyNode::new(Counting { asked: 0 }, planned);
-    assert_eq!(rt; faults_of(alloc, &mut node)?, 3);
-    assert_eq!(rt; node.faults(), 3);
-    // Only the call that faults before its effect did not reach the other node.
-    assert_eq!(rt; node.into_inner().asked, 11);
+    Ok(())
+}
+
+// The calls of a node from the first to a removal, each effect once.
+const EFFECTS: [&str; 8] = [
+    "create x.git 1",
+    "prepare x.git 2 none blob refs/tags/empty +blob",
+    "commit x.git 2 vote",
+    "abort x.git 3",
+    "fence x.git 5",
+    "apply y.git 1 none tree refs/a +tree",
+    "apply x.git 5 none tree refs/b +tree",
+    "remove y.git 2",
+];
+
+#[test]
+fn where_the_keeper_fails_nothing_has_changed(rt: HostRuntime) -> Result<(), Fail> {
+    let alloc = rt.alloc();
+    for failing in 1u64..9 {
+        let mut honest = Shelf::new(alloc, MemKeeper::new(alloc, Vec::new(alloc)));
+        let calls = Vec::from_slice(alloc, &[failing])?;
+        let mut node = Shelf::new(alloc, MemKeeper::new(alloc, calls));
+        let mut faults = 0u64;
+        for line in EFFECTS {
+            let want = answer(alloc, &mut honest, line)?;
+            let mut told = answer(alloc, &mut node, line)?;
+            if told.as_str() == "fault" {
+                faults = faults.saturating_add(1);
+                // The same call is done at the second try, as if it were the first.
+                told = answer(alloc, &mut node, line)?;
+            }
+            assert_eq!(rt; told.as_str(), want.as_str());
+        }
+        assert_eq!(rt; faults, 1);
+        assert_eq!(rt; node.faults(), 1);
+        let kept = rows(alloc, &mut node.into_keeper())?;
+        let wanted = rows(alloc, &mut honest.into_keeper())?;
+        assert_eq!(rt; kept.as_str(), wanted.as_str());
+    }
     Ok(())
 }
 
 #[test]
-fn without_planned_faults_answers_are_handed_on(rt: HostRuntime) -> Result<(), Fail> {
+fn the_rows_are_those_of_what_is_there(rt: HostRuntime) -> Result<(), Fail> {
     let alloc = rt.alloc();
-    let mut node = FaultyNode::new(Counting { asked: 0 }, Vec::new(alloc));
-    assert_eq!(rt; faults_of(alloc, &mut node)?, 0);
-    let repo = RepoPath::read(alloc, b"x.git")?;
-    let refs = node.refs(alloc, &repo);
-    assert!(rt; matches!(refs, Err(NodeError::Refused(NodeRefusal::NoRepo))));
-    match Lease::new(5) {
-        Some(lease) => assert_eq!(rt; node.fence(alloc, &repo, lease), Ok(Some(lease))),
-        None => assert!(rt; false),
+    let mut node = Shelf::new(alloc, MemKeeper::new(alloc, Vec::new(alloc)));
+    for line in EFFECTS {
+        answer(alloc, &mut node, line)?;
     }
-    assert_eq!(rt; node.faults(), 0);
+    // Written by hand: the fence, the flag and the last lease, and whether it is held; the id of the
+    // reference; the kinds and contents of the objects.
+    let shown = rows(alloc, &mut node.into_keeper())?;
+    assert_eq!(rt;
+        shown.as_str(),
+        "6 782e676974=000000000000000601000000000000000201 \
+        6 792e676974=000000000000000300000000000000000000 \
+        7 782e67697400726566732f62=4b825dc642cb6eb9a060e54bf8d69288fbee4904 \
+        8 782e676974004b825dc642cb6eb9a060e54bf8d69288fbee4904=02 \
+        8 782e67697400e69de29bb2d1d6434b8b29ae775ad8c2e48c5391=03 "
+    );
     Ok(())
 }

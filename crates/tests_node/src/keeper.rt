@@ -5,15 +5,15 @@ use px_keeper::{Batch, KeepFault, Keeper, MemKeeper};
 use std::alloc::Global;
 use std::test::Fail;
 
-// A row as `TABLE KEY=VALUE`.
+// A row as `TABLE KEY=VALUE`, key and value in hexadecimal.
 fn row(alloc: Global, table: u8, key: &Bytes, value: &Bytes) -> Result<String, Fail> {
-    let key = str::from_utf8(key.as_slice()).unwrap_or("?");
-    let value = str::from_utf8(value.as_slice()).unwrap_or("?");
+    let key = hex::encode(alloc, key.as_slice())?;
+    let value = hex::encode(alloc, value.as_slice())?;
     Ok(format!(in alloc; "{table} {key}={value} ")?)
 }
 
 // All rows of the tables 6 to 8, in order.
-fn rows<K: Keeper>(alloc: Global, keeper: &mut K) -> Result<String, Fail> {
+pub fn rows<K: Keeper>(alloc: Global, keeper: &mut K) -> Result<String, Fail> {
     let mut shown = String::new(alloc);
     for table in 6u8..9 {
         let mut after = Bytes::new(alloc);
@@ -57,7 +57,7 @@ fn a_batch_is_kept_whole_and_in_order(rt: HostRuntime) -> Result<(), Fail> {
     assert_eq!(rt; first.len(), 7);
     assert_eq!(rt; keeper.commit(&first), Ok(()));
     let shown = rows(alloc, &mut keeper)?;
-    assert_eq!(rt; shown.as_str(), "6 c=3 7 a=2 7 b=4 ");
+    assert_eq!(rt; shown.as_str(), "6 63=33 7 61=32 7 62=34 ");
     match keeper.get(alloc, 7, b"b") {
         Ok(Some(value)) => assert_eq!(rt; value.as_slice(), b"4".as_slice()),
         _ => assert!(rt; false),
@@ -81,6 +81,6 @@ fn a_call_that_fails_does_nothing_and_is_counted(rt: HostRuntime) -> Result<(), 
     assert!(rt; matches!(keeper.scan(alloc, 6, None), Err(KeepFault::Failed)));
     assert_eq!(rt; keeper.faults(), 3);
     let shown = rows(alloc, &mut keeper)?;
-    assert_eq!(rt; shown.as_str(), "6 a=1 ");
+    assert_eq!(rt; shown.as_str(), "6 61=31 ");
     Ok(())
 }

@@ -5,3 +5,7 @@
 mod faulty;
 #[cfg(test)]
 mod keeper;
+#[cfg(test)]
+mod opening;
+#[cfg(test)]
+mod shelf;

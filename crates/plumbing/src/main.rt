@@ -6,7 +6,11 @@
 //! - `chain N TURNS` and `wide N TURNS` put a chain of N commits, or a tree of N files, into a store,
 //!   and say TURNS times whether all that is reachable from the last one is there;
 //! - `create N TURNS` and `change N TURNS` prepare N creations on no references, or one update
-//!   on N references, TURNS times.
+//!   on N references, TURNS times;
+//! - `push N TURNS` makes N repositories at a node in memory, and TURNS pushes into them;
+//! - `open N TURNS` opens a node over what a node with N repositories and ten pushes each has kept,
+//!   TURNS times;
+//! - `rows` reads maps of rows, opens a node over each, and says what that comes to.
 //!
 //! A word calls the crates, and has no rules of its own.
 #![tactic(auto)]
@@ -15,7 +19,9 @@ mod closure;
 mod end;
 mod hash;
 mod objects;
+mod pushes;
 mod references;
+mod rows;
 
 use crate::end::End;
 use px_base::{Sink, Source, StdSink, StdSource, write_all};
@@ -64,6 +70,13 @@ fn work<S: Source, O: Sink>(
         [word, count, turns] if word.as_str() == "change" => {
             references::change(alloc, count.as_str(), turns.as_str(), out)
         }
+        [word, count, turns] if word.as_str() == "push" => {
+            pushes::push(alloc, count.as_str(), turns.as_str(), out)
+        }
+        [word, count, turns] if word.as_str() == "open" => {
+            pushes::open(alloc, count.as_str(), turns.as_str(), out)
+        }
+        [word] if word.as_str() == "rows" => rows::rows(alloc, input, out),
         _ => Err(End::Usage),
     }
 }

@@ -14,8 +14,8 @@ use std::alloc::Global;
 /// More than the longest line of an update takes.
 const LINE_BYTES: usize = 512;
 
-// What stands before the first space, and what stands after it.
-fn field(text: &[u8]) -> Option<(&[u8], &[u8])> {
+/// What stands before the first space, and what stands after it.
+pub fn field(text: &[u8]) -> Option<(&[u8], &[u8])> {
     let space = text.iter().position(|byte| *byte == b' ')?;
     Some((&text[..space], &text[space + 1..]))
 }
@@ -56,7 +56,8 @@ fn updates<S: Source>(alloc: Global, input: &mut S) -> Result<Updates, End> {
     Ok(updates)
 }
 
-fn print<O: Sink>(out: &mut O, text: &[u8]) -> Result<(), End> {
+/// Writes all of the text.
+pub fn print<O: Sink>(out: &mut O, text: &[u8]) -> Result<(), End> {
     match write_all(out, text) {
         WrittenEnd::All => Ok(()),
         WrittenEnd::Failed => Err(End::WriteFault),

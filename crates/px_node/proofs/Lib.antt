@@ -2,6 +2,7 @@ mod AddedLemmas
 mod FenceLemmas
 mod HashLemmas
 mod HeldLemmas
+mod KnownLemmas
 mod LawfulLemmas
 mod NameSize
 mod ObjectLemmas

@@ -21,18 +21,52 @@ use px_keeper::{Batch, Keeper};
 use refstore::Refs;
 use std::alloc::{AllocError, Global};
 use std::collections::BTreeMap;
+use std::marker::Model;
 
 /// Replicas by the paths of their repositories.
 pub(crate) type Replicas = BTreeMap<RepoPath, Replica>;
 
-/// What is there of a repository, or else the replica that is given.
-pub(crate) fn find<'a>(replicas: &'a Replicas, repo: &RepoPath, none: &'a Replica) -> &'a Replica
-    requires { none.now ≡ nothing }
+/// What a node has of a repository that it never heard of: nothing. It is made once, and lent to each
+/// call.
+#[derive(Drop)]
+pub(crate) struct Unheard {
+    replica: Replica,
+}
+
+impl Model for Unheard {
+    ghost use Rattle.std.specs.Prelude.{◌≡◌};
+    ghost use Rattle.node_rows.specs.Place.{Place, nothing};
+
+    ghost Value = { Place };
+
+    ghost view = { λ u. u.replica };
+
+    ghost invariant = { λ u. u.replica ≡ nothing };
+}
+
+impl Unheard {
+    /// It takes no memory.
+    pub(crate) fn new(alloc: Global) -> Unheard {
+        Unheard {
+            replica: Replica::new(alloc),
+        }
+    }
+
+    // The replica that has nothing.
+    fn replica(&self) -> &Replica
+        ensures { result.now ≡ nothing }
+    {
+        &self.replica
+    }
+}
+
+/// What is there of a repository, which is nothing where it was never heard of.
+pub(crate) fn find<'a>(replicas: &'a Replicas, repo: &RepoPath, unheard: &'a Unheard) -> &'a Replica
     ensures { result.now ≡ place_at replicas.now.entries repo.now }
 {
     match replicas.get(repo) {
         Some(replica) => replica,
-        None => none,
+        None => unheard.replica(),
     }
 }
 

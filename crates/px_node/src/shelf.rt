@@ -16,8 +16,7 @@ ghost use Rattle.std.proofs.Props.{props};
 ghost use Rattle.std.specs.FinMap.{empty};
 
 use crate::opening::{Unread, read_rows};
-use crate::replica::Replica;
-use crate::replicas::{self, Replicas, find, keep_rows, make_room};
+use crate::replicas::{self, Replicas, Unheard, find, keep_rows, make_room};
 use crate::{Node, NodeError, NodeRefusal, OpenFault, Snapshot};
 use px_base::{Hash, Lease, Object, ObjectId, PathList, Push, RefList, RepoPath};
 use px_keeper::Keeper;
@@ -31,6 +30,7 @@ use voters::Verdict;
 pub struct Shelf<K: Keeper + Drop> {
     keeper: K,
     replicas: Replicas,
+    unheard: Unheard,
     ghost rows_stand: { RowsStand (K.rows keeper) (place_at replicas.entries) } by { Prim.hlevel props },
     ghost lawful: { AreLawful replicas.entries } by { Prim.hlevel props },
 }
@@ -45,6 +45,7 @@ impl<K: Keeper + Drop> Shelf<K> {
         Shelf {
             keeper,
             replicas: BTreeMap::new(alloc),
+            unheard: Unheard::new(alloc),
         }
     }
 
@@ -69,7 +70,11 @@ impl<K: Keeper + Drop> Shelf<K> {
         let mut keeper = keeper;
         let mut replicas = BTreeMap::new(alloc);
         match read_rows(alloc, &mut keeper, &mut replicas) {
-            Ok(()) => Ok(Shelf { keeper, replicas }),
+            Ok(()) => Ok(Shelf {
+                keeper,
+                replicas,
+                unheard: Unheard::new(alloc),
+            }),
             Err(Unread::BadRow { table, key }) => Err(OpenFault::BadRow { keeper, table, key }),
             Err(Unread::Fault) => Err(OpenFault::KeeperFault { keeper }),
             Err(Unread::Memory) => Err(OpenFault::Memory { keeper }),
@@ -96,8 +101,7 @@ impl<K: Keeper + Drop> Shelf<K> {
         ensures cause { NodeHasCause (K.keep_faults self.old.keeper)
             (K.keep_faults self.new.keeper) result }
     {
-        let none = Replica::new(alloc);
-        let replica = find(&self.replicas, repo, &none);
+        let replica = find(&self.replicas, repo, &self.unheard);
         if !replica.is_below(lease) {
             return Ok(());
         }
@@ -124,8 +128,7 @@ impl<K: Keeper + Drop> Node for Shelf<K> {
             (place_at self.new.replicas.entries)
             (K.rows self.old.keeper) (K.rows self.new.keeper)) }
     {
-        let none = Replica::new(alloc);
-        let replica = find(&self.replicas, repo, &none);
+        let replica = find(&self.replicas, repo, &self.unheard);
         replica.may_create(lease)?;
         let batch = replica.rows_emptied(alloc, repo, lease, true)?;
         keep_rows(alloc, &mut self.replicas, &mut self.keeper, &batch, repo)?;
@@ -151,9 +154,11 @@ impl<K: Keeper + Drop> Node for Shelf<K> {
             (place_at self.new.replicas.entries)
             (K.rows self.old.keeper) (K.rows self.new.keeper)) }
     {
-        let none = Replica::new(alloc);
-        let replica = find(&self.replicas, repo, &none);
-        let ready = replica.prepared(alloc, lease, push)?;
+        let replica = find(&self.replicas, repo, &self.unheard);
+        let ready = match replica.prepared(alloc, lease, push) {
+            Ok(ready) => ready,
+            Err(error) => return Err(error),
+        };
         let batch = replica.rows_fenced(alloc, repo, lease.number())?;
         keep_rows(alloc, &mut self.replicas, &mut self.keeper, &batch, repo)?;
         let vote = ready.prepared.vote();
@@ -179,8 +184,7 @@ impl<K: Keeper + Drop> Node for Shelf<K> {
             (place_at self.new.replicas.entries)
             (K.rows self.old.keeper) (K.rows self.new.keeper)) }
     {
-        let none = Replica::new(alloc);
-        let replica = find(&self.replicas, repo, &none);
+        let replica = find(&self.replicas, repo, &self.unheard);
         replica.may_commit(lease, &verdict.hash())?;
         let batch = replica.rows_committed(alloc, repo, lease)?;
         replicas::commit(
@@ -204,8 +208,7 @@ impl<K: Keeper + Drop> Node for Shelf<K> {
             (place_at self.new.replicas.entries)
             (K.rows self.old.keeper) (K.rows self.new.keeper)) }
     {
-        let none = Replica::new(alloc);
-        let replica = find(&self.replicas, repo, &none);
+        let replica = find(&self.replicas, repo, &self.unheard);
         replica.may_abort(lease)?;
         let batch = replica.rows_fenced(alloc, repo, lease.number() + 1)?;
         keep_rows(alloc, &mut self.replicas, &mut self.keeper, &batch, repo)?;
@@ -229,8 +232,7 @@ impl<K: Keeper + Drop> Node for Shelf<K> {
             (place_at self.new.replicas.entries)
             (K.rows self.old.keeper) (K.rows self.new.keeper)) }
     {
-        let none = Replica::new(alloc);
-        let replica = find(&self.replicas, repo, &none);
+        let replica = find(&self.replicas, repo, &self.unheard);
         let held = replica.holds();
         let last = replica.last();
         self.raise(alloc, repo, lease)?;
@@ -251,8 +253,7 @@ impl<K: Keeper + Drop> Node for Shelf<K> {
             (place_at self.new.replicas.entries)
             (K.rows self.old.keeper) (K.rows self.new.keeper) }
     {
-        let none = Replica::new(alloc);
-        find(&self.replicas, repo, &none).refs(alloc)
+        find(&self.replicas, repo, &self.unheard).refs(alloc)
     }
 
     fn object(
@@ -271,8 +272,7 @@ impl<K: Keeper + Drop> Node for Shelf<K> {
             (place_at self.new.replicas.entries)
             (K.rows self.old.keeper) (K.rows self.new.keeper) }
     {
-        let none = Replica::new(alloc);
-        find(&self.replicas, repo, &none).object(alloc, id)
+        find(&self.replicas, repo, &self.unheard).object(alloc, id)
     }
 
     fn snapshot(&mut self, alloc: Global, repo: &RepoPath) -> Result<Snapshot, NodeError>
@@ -286,8 +286,7 @@ impl<K: Keeper + Drop> Node for Shelf<K> {
             (place_at self.new.replicas.entries)
             (K.rows self.old.keeper) (K.rows self.new.keeper) }
     {
-        let none = Replica::new(alloc);
-        find(&self.replicas, repo, &none).snapshot(alloc)
+        find(&self.replicas, repo, &self.unheard).snapshot(alloc)
     }
 
     fn apply(
@@ -308,9 +307,8 @@ impl<K: Keeper + Drop> Node for Shelf<K> {
             (place_at self.new.replicas.entries)
             (K.rows self.old.keeper) (K.rows self.new.keeper)) }
     {
-        let none = Replica::new(alloc);
         let objects = snapshot.objects.as_slice();
-        let replica = find(&self.replicas, repo, &none);
+        let replica = find(&self.replicas, repo, &self.unheard);
         let refs = replica.may_apply(alloc, lease, snapshot)?;
         let batch = replica.rows_applied(alloc, repo, lease, &refs, objects)?;
         make_room(alloc, &mut self.replicas, repo)?;
@@ -337,8 +335,7 @@ impl<K: Keeper + Drop> Node for Shelf<K> {
             (place_at self.new.replicas.entries)
             (K.rows self.old.keeper) (K.rows self.new.keeper)) }
     {
-        let none = Replica::new(alloc);
-        let replica = find(&self.replicas, repo, &none);
+        let replica = find(&self.replicas, repo, &self.unheard);
         replica.admits(lease)?;
         let batch = replica.rows_emptied(alloc, repo, lease, false)?;
         keep_rows(alloc, &mut self.replicas, &mut self.keeper, &batch, repo)?;

@@ -5,8 +5,8 @@ use Rattle.px_node.specs.Calls.{commit_fault, not_held, ready_under}
 use Rattle.std.specs.Option.{option_or}
 use Rattle.px_node.proofs.shelf.ShelfNode.commit.Goals as goal
 
-pub invariant_of-self : goal.invariant_of-self
-invariant_of-self g c =
+pub invariant_of-self-2 : goal.invariant_of-self-2
+invariant_of-self-2 g c =
     let self = c.args.self.now in
     let place = c.find-replica.result.now in
     let more = commit_fault c.hash.result (ready_under c.args.lease place.ready) in

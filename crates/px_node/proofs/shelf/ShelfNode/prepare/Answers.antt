@@ -1,4 +1,5 @@
 use Rattle.std.proofs.Common.{ℕ, ap, sym, ◌∙◌}
+use Rattle.px_node.proofs.KnownLemmas.{prepare_known}
 use Rattle.px_node.proofs.ShelfLemmas.{rows_prepared}
 use Rattle.px_node.specs.Shelf.{place_at}
 use Rattle.node_rows.specs.Writes.{fenced_rows}
@@ -8,8 +9,8 @@ pub invariant_of-self-2 : goal.invariant_of-self-2
 invariant_of-self-2 g c =
     let self = c.args.self.now in
     let place = c.find-replica.result.now in
-    let ready = c.in_ok-ready.ready in
-    let is = c.in_ok-ready.ensures.ok in
+    let ready = c.in-Ok.ready in
+    let is = c.in-Ok.ensures.ok in
     record {
       rows_stand = rows_prepared (g.K.Keeper.rows self.keeper)
           (g.K.Keeper.rows c.keep_rows.new.keeper) (place_at self.replicas.entries)
@@ -28,3 +29,8 @@ invariant_of-self-2 g c =
           (c.number.ensures.value ∙ sym is.lease_is)) c.prepare.ensures.changes;
       lawful = c.prepare.ensures.lawful (c.keep_rows.ensures.lawful self.lawful);
     }
+
+pub returns-in-Err-clause-known : goal.returns-in-Err-clause-known
+returns-in-Err-clause-known g c =
+    prepare_known c.args.lease c.args.push.now c.find-replica.result.now c.in-Err.error
+    c.in-Err.ensures.err

@@ -87,6 +87,43 @@ fn where_the_keeper_fails_nothing_has_changed(rt: HostRuntime) -> Result<(), Fai
     Ok(())
 }
 
+// What a node has, as it tells it.
+fn told_of(alloc: Global, node: &mut Shelf<MemKeeper>) -> Result<String, Fail> {
+    let mut told = String::new(alloc);
+    for line in [
+        "list",
+        "snapshot x.git",
+        "snapshot y.git",
+        "object x.git blob",
+    ] {
+        told.push_str(answer(alloc, node, line)?.as_str())?;
+        told.push_str("; ")?;
+    }
+    Ok(told)
+}
+
+// Memory wants where `rt try --test --fail-alloc` makes it.
+#[test]
+fn where_memory_wants_nothing_has_changed(rt: HostRuntime) -> Result<(), Fail> {
+    let alloc = rt.alloc();
+    let mut node = Shelf::new(alloc, MemKeeper::new(alloc, Vec::new(alloc)));
+    let mut honest = Shelf::new(alloc, MemKeeper::new(alloc, Vec::new(alloc)));
+    for line in EFFECTS {
+        let told = answer(alloc, &mut node, line)?;
+        if told.as_str() == "memory" {
+            let kept = told_of(alloc, &mut node)?;
+            let wanted = told_of(alloc, &mut honest)?;
+            assert_eq!(rt; kept.as_str(), wanted.as_str());
+            let kept = rows(alloc, &mut node.into_keeper())?;
+            let wanted = rows(alloc, &mut honest.into_keeper())?;
+            assert_eq!(rt; kept.as_str(), wanted.as_str());
+            return Ok(());
+        }
+        answer(alloc, &mut honest, line)?;
+    }
+    Ok(())
+}
+
 #[test]
 fn the_rows_are_those_of_what_is_there(rt: HostRuntime) -> Result<(), Fail> {
     let alloc = rt.alloc();

@@ -8,7 +8,7 @@ use Rattle.objstore.specs.Entries.{Entries, object_at}
 use Rattle.px_keeper.specs.Row.{Rows, row_cmp}
 use Rattle.px_keeper.specs.declared.row_key.RowKey.{RowKey}
 use Rattle.node_rows.proofs.RowLemmas.{IsRow-same}
-use Rattle.node_rows.specs.Place.{NodeState, Place, Same, nothing, without_ready}
+use Rattle.node_rows.specs.Place.{NodeState, Place, Same, nothing}
 use Rattle.node_rows.specs.Rows.{IsRow, StandFor, cut, object_bytes, object_row, ref_row, replica_row, row_of}
 
 -- the two places are one but for the push that is ready
@@ -69,17 +69,6 @@ pub stand_same : (rows : Rows) (old new : NodeState) → Same old new → StandF
     → StandFor rows new
 stand_same rows old new same =
     stand_alike old new (λ path. alike_same (old path) (new path) (same path)) rows
-
--- the process ends, and each push that was ready is lost
-pub stand_without_ready : (rows : Rows) (old new : NodeState)
-    → ((path : List ℕ) → new path ≡ without_ready (old path)) → StandFor rows old
-    → StandFor rows new
-stand_without_ready rows old new lost =
-    stand_alike old new (λ path. alike_lost (old path) (new path) (lost path)) rows
-  where
-    alike_lost : (old_ new_ : Place) → new_ ≡ without_ready old_ → IsAlike old_ new_
-    alike_lost old_ new_ is = subst (λ (p : Place). IsAlike old_ p) (sym is)
-        (record { held = refl; refs = refl; objects = refl; fence = refl; last = refl })
 
 -- ---- the start
 

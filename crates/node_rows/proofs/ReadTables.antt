@@ -10,7 +10,7 @@ use Rattle.px_keeper.specs.declared.row_key.RowKey.{RowKey}
 use Rattle.node_rows.proofs.Alike.{alike_same, rows_alike, rows_of_nothing}
 use Rattle.node_rows.proofs.LawfulPlaces.{IsLawfulPlace-said}
 use Rattle.node_rows.proofs.ReadRows.{above_from_not, first_bad, found_where}
-use Rattle.node_rows.specs.BadRow.{AreGood, IsFirstBad, IsGood, object, reference, replica}
+use Rattle.node_rows.specs.BadRow.{IsFirstBad, IsGood, object, reference, replica}
 use Rattle.node_rows.specs.Lawful.{IsLawfulPlace}
 use Rattle.node_rows.specs.Place.{NodeState, Place, Same, nothing}
 use Rattle.node_rows.specs.Reading.{IsReadTo, is_read, is_up_to, read_so_far}
@@ -112,11 +112,7 @@ read_same rows table last old new reads same = record {
 all_read : (row : RowKey) → row.table < 256 → is_read 256 None row ≡ true
 all_read row small = or_left _ _ (lt-ltb row.table 256 small)
 
--- so all rows are good
-pub read_all_good : (rows : Rows) (node : NodeState) → IsReadTo rows 256 None node → AreGood rows
-read_all_good rows node reads row value small = reads.good row value (all_read row small)
-
--- and they stand for the node
+-- so they stand for the node
 pub read_all : (rows : Rows) (node : NodeState) → IsReadTo rows 256 None node
     → StandFor rows node
 read_all rows node reads row small = subst (IsRow row (row_of node row))

@@ -10,7 +10,7 @@ use Rattle.std.proofs.lemmas.List.{append-nil}
 use Rattle.px_base.specs.PathList.{IsPathList}
 use Rattle.px_base.specs.RefList.{is_name, name_cmp}
 use Rattle.px_base.specs.RepoPath.{IsRepoPath}
-use Rattle.px_node.specs.Ends.{ArePaths}
+use Rattle.node_calls.specs.Ends.{ArePaths}
 use Rattle.px_node.specs.Held.{held_paths}
 use Rattle.node_rows.specs.Place.{Place, nothing}
 use Rattle.px_node.specs.Shelf.{Replicas, place_at}

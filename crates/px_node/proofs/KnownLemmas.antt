@@ -13,13 +13,13 @@ use Rattle.refstore.specs.Updates.{refusal_of}
 use Rattle.refstore.specs.declared.prepared.RefRefusal.{RefRefusal}
 use Rattle.refstore.specs.declared.prepared.RefRefusal.TheVariants as refs
 use Rattle.node_rows.specs.Place.{Place}
-use Rattle.px_node.specs.Calls.{Lacks, fenced, new_tips, not_held, prepare_refusal, with_coming}
-use Rattle.px_node.specs.Prepared.{IsNotPrepared}
-use Rattle.px_node.specs.Refusals.{IsFenced, IsOfObjects, IsOfUpdates, MayAnswer, MayRefuse, Prepare, of_bundle, of_updates}
-use Rattle.px_node.specs.declared.node.NodeError.{NodeError}
-use Rattle.px_node.specs.declared.node.NodeError.TheVariants.{Fault, Memory, Refused}
-use Rattle.px_node.specs.declared.refusal.NodeRefusal.{NodeRefusal}
-use Rattle.px_node.specs.declared.refusal.NodeRefusal.TheVariants.{Fenced, NoRepo, Missing}
+use Rattle.node_calls.specs.Calls.{Lacks, fenced, new_tips, not_held, prepare_refusal, with_coming}
+use Rattle.node_replica.specs.Prepared.{IsNotPrepared}
+use Rattle.node_calls.specs.Refusals.{IsFenced, IsOfObjects, IsOfUpdates, MayAnswer, MayRefuse, Prepare, of_bundle, of_updates}
+use Rattle.node_calls.specs.declared.node.NodeError.{NodeError}
+use Rattle.node_calls.specs.declared.node.NodeError.TheVariants.{Fault, Memory, Refused}
+use Rattle.node_calls.specs.declared.refusal.NodeRefusal.{NodeRefusal}
+use Rattle.node_calls.specs.declared.refusal.NodeRefusal.TheVariants.{Fenced, NoRepo, Missing}
 
 -- the first cause that holds is one of two
 one_of : {A : Type 0} (a b : Option A) (r : A) → option_or a b ≡ Some r

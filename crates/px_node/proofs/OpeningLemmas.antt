@@ -24,11 +24,11 @@ use Rattle.px_node.proofs.Places.{Changes-back, Changes-put, Puts, place_here}
 use Rattle.px_node.specs.Opening.{AreTold, IsUnread, ReadTo, TakesObject, TakesRef}
 use Rattle.px_node.specs.RowKeys.{TellsObject, TellsRef}
 use Rattle.px_node.specs.Shelf.{AreLawful, Replicas, place_at}
-use Rattle.px_node.specs.Told.{MayHaveObject, MayHaveRef}
+use Rattle.node_replica.specs.Told.{MayHaveObject, MayHaveRef}
 use Rattle.px_node.specs.declared.opening.Unread.{Unread}
 use Rattle.px_node.specs.declared.opening.Unread.TheVariants as unread
-use Rattle.px_node.specs.declared.replica.NotTaken.{NotTaken}
-use Rattle.px_node.specs.declared.replica.NotTaken.TheVariants.{BadRow}
+use Rattle.node_replica.specs.declared.replica.NotTaken.{NotTaken}
+use Rattle.node_replica.specs.declared.replica.NotTaken.TheVariants.{BadRow}
 
 -- an error of one call is that of another
 pub as_err : {A B : Type 0} (e : NotTaken) → ◌≡◌ {A = Result A NotTaken} (Err e) (Err BadRow)

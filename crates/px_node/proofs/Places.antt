@@ -6,7 +6,7 @@ use Rattle.std.proofs.lemmas.Bool.{cases_Bool, cond-false, cond-true}
 use Rattle.px_base.specs.RefList.{is_name}
 use Rattle.std.specs.Prelude.{Result, Ok, Err, OnOk, OnErr, IfOk}
 use Rattle.px_base.specs.declared.hash.Hash.{Hash}
-use Rattle.px_node.specs.Effects.{CommitsAt, DoesReady}
+use Rattle.node_replica.specs.Effects.{CommitsAt, DoesReady}
 use Rattle.node_rows.specs.Place.{Changes, Place, Same, nothing}
 use Rattle.px_node.specs.Shelf.{Replicas, place_at}
 use Rattle.node_rows.proofs.Paths.{one_path, other_path, paths_laws}

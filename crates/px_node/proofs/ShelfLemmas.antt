@@ -17,19 +17,20 @@ use Rattle.node_rows.proofs.Alike.{rows_of_nothing, stand_same}
 use Rattle.px_node.proofs.StandCalls.{stand_aborted, stand_committed, stand_created, stand_prepared, stand_raised, stand_removed, stand_taken_over}
 use Rattle.std.specs.Map.{values_of}
 use Rattle.objstore.specs.Reach.{IsClosed}
-use Rattle.px_node.specs.Checks.{IsNoRefusal}
-use Rattle.px_node.specs.Ends.{Ends}
-use Rattle.px_node.specs.declared.node.NodeError.TheVariants.{Fault, Memory, Refused}
-use Rattle.px_node.specs.declared.snapshot.Snapshot.{Snapshot}
-use Rattle.px_node.specs.Calls.{Applies, ApplyRefuses, aborted, apply_refusal, committed, create_refusal, created, fenced, has_none, not_held, prepared, ready_under, removed, with_coming}
-use Rattle.px_node.specs.Effects.{CommitsAt, MayBeDone, taken_over}
+use Rattle.node_replica.specs.Checks.{IsNoRefusal}
+use Rattle.node_calls.specs.Ends.{Ends}
+use Rattle.node_calls.specs.declared.node.NodeError.TheVariants.{Fault, Memory, Refused}
+use Rattle.node_calls.specs.declared.snapshot.Snapshot.{Snapshot}
+use Rattle.node_calls.specs.Calls.{Applies, ApplyRefuses, aborted, apply_refusal, committed, create_refusal, created, fenced, has_none, not_held, prepared, ready_under, removed, with_coming}
+use Rattle.node_replica.specs.Effects.{CommitsAt, MayBeDone, taken_over}
 use Rattle.node_rows.specs.Place.{Changes, NodeState, Place, ReadyPush, Same, nothing, raised}
 use Rattle.node_rows.specs.Rows.{StandFor}
-use Rattle.px_node.specs.Shelf.{Keeps, RowsStand}
+use Rattle.node_replica.specs.Kept.{Keeps}
+use Rattle.px_node.specs.Shelf.{RowsStand}
 use Rattle.node_rows.specs.Writes.{applied_rows, committed_rows, emptied_rows, fenced_rows}
-use Rattle.px_node.specs.declared.node.NodeError.{NodeError}
-use Rattle.px_node.specs.declared.refusal.NodeRefusal.{NodeRefusal}
-use Rattle.px_node.specs.declared.refusal.NodeRefusal.TheVariants.{Fenced, NoRepo, RepoExists}
+use Rattle.node_calls.specs.declared.node.NodeError.{NodeError}
+use Rattle.node_calls.specs.declared.refusal.NodeRefusal.{NodeRefusal}
+use Rattle.node_calls.specs.declared.refusal.NodeRefusal.TheVariants.{Fenced, NoRepo, RepoExists}
 
 -- a lease that is admitted is not below the fence
 admitted : (lease fence : ℕ) (b : Bool) → nat_lt lease fence ≡ b

@@ -1,6 +1,6 @@
 -- The rows that stand for a node after the batch of each call.
-use Rattle.std.proofs.Common.{◌≡◌, ◌+◌, ◌<◌, ◌≤◌, ℕ, List, true, false, not, max, None, refl, sym, ap, subst, ⊎_elim, arith}
-use Rattle.std.proofs.Math.Nat.{max-eq_left, max-eq_right}
+use Rattle.std.proofs.Common.{◌≡◌, ◌+◌, ◌<◌, ◌≤◌, ℕ, List, true, false, not, max, None, refl, ap, arith}
+use Rattle.std.proofs.Math.Nat.{max-eq_right}
 use Rattle.std.proofs.lemmas.Bool.{and_right}
 use Rattle.px_base.specs.Object.{GitObject}
 use Rattle.px_base.specs.RefList.{References}
@@ -10,13 +10,11 @@ use Rattle.objstore.specs.Bundle.{bundle_fault}
 use Rattle.refstore.proofs.After.{Ascends}
 use Rattle.px_keeper.specs.Change.{applied}
 use Rattle.px_keeper.specs.Row.{Rows}
-use Rattle.node_rows.proofs.RowLemmas.{this_or_other}
 use Rattle.node_rows.proofs.Stands.{stand_applied, stand_emptied, stand_fenced, stand_pushed, touched_fence}
-use Rattle.px_node.specs.Calls.{aborted, committed, created, prepared, removed}
-use Rattle.px_node.specs.Effects.{taken_over}
+use Rattle.node_calls.specs.Calls.{aborted, committed, created, prepared, removed}
+use Rattle.node_replica.specs.Effects.{taken_over}
 use Rattle.node_rows.specs.Place.{Changes, NodeState, Place, ReadyPush, raised}
 use Rattle.node_rows.specs.Rows.{StandFor, is_untouched}
-use Rattle.node_rows.proofs.Alike.{IsAlike, alike_same, stand_alike}
 use Rattle.refstore.specs.Updates.{Fits}
 use Rattle.node_rows.specs.Writes.{applied_rows, committed_rows, emptied_rows, fenced_rows}
 
@@ -91,20 +89,3 @@ module _ (rows : Rows) (old new : NodeState) (path : List ℕ) (stand : StandFor
       stand_fenced rows old new path (raised lease (old path)) stand lawful changes lease
       (touched_fence (raised lease (old path)) lease fence (omega (arith, below))) fence
       refl refl refl refl
-
--- and where it is not, no row changes
-pub stand_not_raised : (rows : Rows) (old new : NodeState) (path : List ℕ) → StandFor rows old
-    → (lease : ℕ) → lease ≤ (old path).fence → Changes old new path (raised lease (old path))
-    → StandFor rows new
-stand_not_raised rows old new path stand lease least changes =
-    stand_alike old new (λ q. ⊎_elim
-    (λ here. subst (λ (p : List ℕ). IsAlike (old p) (new p)) here
-    (subst (λ (place : Place). IsAlike (old path) place) (sym changes.here) (record {
-      held = refl;
-      refs = refl;
-      objects = refl;
-      fence = max-eq_left least;
-      last = refl;
-    })))
-    (λ same. alike_same (old q) (new q) same)
-    (this_or_other old new path changes.others q)) rows stand

@@ -1,12 +1,10 @@
 -- What a shelf has of each repository.
 use Rattle.std.specs.Prelude.{◌≡◌, ℕ, List, IsSome, Option, Some}
 use Rattle.std.specs.Map.{lookup}
-use Rattle.std.specs.Option.{option_map, unwrap_or}
+use Rattle.std.specs.Option.{unwrap_or}
 use Rattle.px_base.specs.RefList.{is_name}
 use Rattle.px_base.specs.RepoPath.{IsRepoPath}
-use Rattle.px_keeper.specs.Change.{applied}
 use Rattle.px_keeper.specs.Row.{Rows}
-use Rattle.px_keeper.specs.declared.change.Change.{Change}
 use Rattle.node_rows.specs.Lawful.{IsLawfulPlace}
 use Rattle.node_rows.specs.Place.{NodeState, Place, Same, nothing}
 use Rattle.node_rows.specs.Rows.{StandFor}
@@ -29,10 +27,6 @@ pub record AreLawful (replicas : Replicas) : Type 0 where
 -- they stand for the node
 abbrev pub RowsStand : Option Rows → NodeState → Type 0
 RowsStand kept node = (rows : Rows) → kept ≡ Some rows → StandFor rows node
-
--- the batch was kept
-abbrev pub Keeps : List Change → Option Rows → Option Rows → Type 0
-Keeps batch old new = new ≡ option_map (λ rows. applied rows batch) old
 
 -- ---- calls that were not done
 

@@ -11,9 +11,9 @@ ghost use Rattle.px_base.specs.declared.hash.Hash.{Hash};
 ghost use Rattle.px_node.specs.Opening.{AreTold, IsUnread, ReadTo, TakesObject, TakesRef, TakesReplica, UnreadHasCause};
 ghost use Rattle.px_node.specs.Shelf.{place_at};
 
-use crate::replica::{NotTaken, Replica};
 use crate::replicas::Replicas;
 use crate::row_keys::{path_of, read_object_row, read_ref_row};
+use node_replica::{NotTaken, Replica};
 use node_rows::read_replica;
 use px_base::Bytes;
 use px_keeper::{KeepFault, Keeper};

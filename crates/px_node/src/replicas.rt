@@ -4,18 +4,18 @@ ghost use Rattle.std.specs.Prelude.{◌≡◌, ◌≤◌, Some, None, true, IsSo
 ghost use Rattle.std.specs.Map.{lookup};
 ghost use Rattle.px_base.specs.RefList.{is_name};
 ghost use Rattle.objstore.specs.Bundle.{bundle_fault};
-ghost use Rattle.px_node.specs.Calls.{aborted, created, prepared, ready_under, removed};
-ghost use Rattle.px_node.specs.Checks.{IsNoRefusal};
-ghost use Rattle.px_node.specs.Effects.{CommitsAt, taken_over};
-ghost use Rattle.px_node.specs.Ends.{ArePaths, NodeHasCause};
+ghost use Rattle.node_calls.specs.Calls.{aborted, created, prepared, ready_under, removed};
+ghost use Rattle.node_replica.specs.Checks.{IsNoRefusal};
+ghost use Rattle.node_replica.specs.Effects.{CommitsAt, taken_over};
+ghost use Rattle.node_calls.specs.Ends.{ArePaths, NodeHasCause};
 ghost use Rattle.node_rows.specs.Place.{Changes, Same, nothing, raised};
-ghost use Rattle.px_node.specs.Prepared.{IsReadyAt};
-ghost use Rattle.px_node.specs.Hashes.{NameHashes};
-ghost use Rattle.px_node.specs.Shelf.{AreLawful, Keeps, place_at};
+ghost use Rattle.node_replica.specs.Prepared.{IsReadyAt};
+ghost use Rattle.node_replica.specs.Hashes.{NameHashes};
+ghost use Rattle.px_node.specs.Shelf.{AreLawful, place_at};
+ghost use Rattle.node_replica.specs.Kept.{Keeps};
 
-use crate::NodeError;
-use crate::refused::keep;
-use crate::replica::{Ready, Replica};
+use node_calls::NodeError;
+use node_replica::{Ready, Replica, keep};
 use px_base::{Hash, Lease, Object, PathList, RepoPath};
 use px_keeper::{Batch, Keeper};
 use refstore::Refs;
@@ -81,9 +81,10 @@ pub(crate) fn make_room(
     ensures lawful { AreLawful replicas.old.entries → AreLawful replicas.new.entries }
 {
     if !replicas.contains_key(repo) {
+        let path = repo.copy(alloc)?;
         let none = Replica::new(alloc);
         none.is_lawful();
-        replicas.insert(repo.copy(alloc)?, none)?;
+        replicas.insert(path, none)?;
     }
     Ok(())
 }

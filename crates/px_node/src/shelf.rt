@@ -1,11 +1,11 @@
 //! A node over a keeper of rows.
 
 ghost use Rattle.std.specs.Prelude.{◌≡◌, ℕ, List, None, Some, Ok, IfOk, IfSome, IfErr, OnOk, OnErr};
-ghost use Rattle.px_node.specs.Calls.{AbortRefuses, Aborts, ApplyRefuses, Applies, CommitRefuses, Commits, CreateRefuses, Creates, PrepareRefuses, Prepares, RemoveRefuses, Removes};
-ghost use Rattle.px_node.specs.Checks.{IsNoRefusal};
-ghost use Rattle.px_node.specs.Ends.{Ends, FenceEnds, IsRaised, ListEnds, NodeHasCause, ReadEnds};
-ghost use Rattle.px_node.specs.Reads.{HasObject, HasRefs, IsSnapshot};
-ghost use Rattle.px_node.specs.Refusals.{MayAnswer, Abort, Apply, Ask, Commit, Create, Fence, Prepare, Read, Remove};
+ghost use Rattle.node_calls.specs.Calls.{AbortRefuses, Aborts, ApplyRefuses, Applies, CommitRefuses, Commits, CreateRefuses, Creates, PrepareRefuses, Prepares, RemoveRefuses, Removes};
+ghost use Rattle.node_replica.specs.Checks.{IsNoRefusal};
+ghost use Rattle.node_calls.specs.Ends.{Ends, FenceEnds, IsRaised, ListEnds, NodeHasCause, ReadEnds};
+ghost use Rattle.node_calls.specs.Reads.{HasObject, HasRefs, IsSnapshot};
+ghost use Rattle.node_calls.specs.Refusals.{MayAnswer, Abort, Apply, Ask, Commit, Create, Fence, Prepare, Read, Remove};
 ghost use Rattle.node_rows.specs.Lawful.{IsLawful};
 ghost use Rattle.node_rows.specs.Place.{NodeState, nothing, without_ready};
 ghost use Rattle.node_rows.specs.Rows.{StandFor};
@@ -15,9 +15,10 @@ ghost use Rattle.px_node.specs.Shelf.{AreLawful, RowsStand, Stays, place_at};
 ghost use Rattle.std.proofs.Props.{props};
 ghost use Rattle.std.specs.FinMap.{empty};
 
+use crate::OpenFault;
 use crate::opening::{Unread, read_rows};
 use crate::replicas::{self, Replicas, Unheard, find, keep_rows, make_room};
-use crate::{Node, NodeError, NodeRefusal, OpenFault, Snapshot};
+use node_calls::{Node, NodeError, NodeRefusal, Snapshot};
 use px_base::{Hash, Lease, Object, ObjectId, PathList, Push, RefList, RepoPath};
 use px_keeper::Keeper;
 use std::alloc::Global;

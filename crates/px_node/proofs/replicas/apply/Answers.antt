@@ -3,7 +3,7 @@ use Rattle.std.specs.Option.{is_some}
 use Rattle.objstore.specs.Bundle.{bundle_fault}
 use Rattle.px_node.proofs.LawfulLemmas.{AreLawful-back}
 use Rattle.px_node.proofs.Places.{Changes-back, OnErr-on, OnOk-on, Same-back, place_here}
-use Rattle.px_node.specs.Effects.{taken_over}
+use Rattle.node_replica.specs.Effects.{taken_over}
 use Rattle.node_rows.specs.Place.{Changes, Place, Same}
 use Rattle.px_node.specs.Shelf.{place_at}
 use Rattle.px_node.proofs.replicas.apply.Goals as goal

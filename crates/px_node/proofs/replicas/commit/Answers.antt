@@ -3,8 +3,8 @@ use Rattle.std.specs.Option.{IsSome, is_some}
 use Rattle.px_base.specs.declared.hash.Hash.{Hash}
 use Rattle.px_node.proofs.LawfulLemmas.{AreLawful-back}
 use Rattle.px_node.proofs.Places.{CommitsAt-back, IfOk-on, OnErr-on, Same-back, place_here}
-use Rattle.px_node.specs.Calls.{ready_under}
-use Rattle.px_node.specs.Effects.{CommitsAt, DoesReady}
+use Rattle.node_calls.specs.Calls.{ready_under}
+use Rattle.node_replica.specs.Effects.{CommitsAt, DoesReady}
 use Rattle.node_rows.specs.Place.{Place, Same}
 use Rattle.px_node.specs.Shelf.{place_at}
 use Rattle.px_node.proofs.replicas.commit.Goals as goal

@@ -2,7 +2,7 @@ use Rattle.std.proofs.Common.{◌≤◌, ap, sym, subst, refl}
 use Rattle.std.specs.Option.{is_some}
 use Rattle.px_node.proofs.LawfulLemmas.{AreLawful-back}
 use Rattle.px_node.proofs.Places.{Changes-back, place_here}
-use Rattle.px_node.specs.Calls.{created}
+use Rattle.node_calls.specs.Calls.{created}
 use Rattle.node_rows.specs.Place.{Place}
 use Rattle.px_node.proofs.replicas.create.Goals as goal
 

@@ -2,8 +2,8 @@ use Rattle.std.proofs.Common.{ap, sym, subst, refl}
 use Rattle.std.specs.Option.{is_some}
 use Rattle.px_node.proofs.LawfulLemmas.{AreLawful-back}
 use Rattle.px_node.proofs.Places.{Changes-back, place_here}
-use Rattle.px_node.specs.Calls.{prepared}
-use Rattle.px_node.specs.Prepared.{IsReadyAt}
+use Rattle.node_calls.specs.Calls.{prepared}
+use Rattle.node_replica.specs.Prepared.{IsReadyAt}
 use Rattle.px_node.proofs.replicas.prepare.Goals as goal
 
 pub prepare-requires : goal.prepare-requires

@@ -1,6 +1,6 @@
 use Rattle.std.proofs.Common.{◌+◌, ℕ, ap, ◌∙◌}
 use Rattle.px_node.proofs.ShelfLemmas.{admits_first, rows_aborted}
-use Rattle.px_node.specs.Calls.{not_held}
+use Rattle.node_calls.specs.Calls.{not_held}
 use Rattle.px_node.specs.Shelf.{place_at}
 use Rattle.node_rows.specs.Writes.{fenced_rows}
 use Rattle.px_node.proofs.shelf.ShelfNode.abort.Goals as goal

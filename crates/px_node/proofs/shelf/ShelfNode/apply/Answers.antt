@@ -3,9 +3,9 @@ use Rattle.px_base.specs.Object.{GitObject}
 use Rattle.objstore.specs.Bundle.{bundle_fault}
 use Rattle.px_base.specs.RefList.{IsRefList}
 use Rattle.px_node.proofs.ShelfLemmas.{admits_first, apply_ends, rows_after_apply}
-use Rattle.px_node.specs.Hashes.{NameHashes}
+use Rattle.node_replica.specs.Hashes.{NameHashes}
 use Rattle.px_node.specs.Shelf.{place_at}
-use Rattle.px_node.specs.Refusals.{of_bundle}
+use Rattle.node_calls.specs.Refusals.{of_bundle}
 use Rattle.px_node.proofs.shelf.ShelfNode.apply.Goals as goal
 
 pub invariant_of-self-2 : goal.invariant_of-self-2

@@ -1,7 +1,7 @@
 use Rattle.std.proofs.Common.{refl}
 use Rattle.px_node.proofs.ShelfLemmas.{admits_first, held_second, rows_after_commit}
 use Rattle.px_node.specs.Shelf.{place_at}
-use Rattle.px_node.specs.Calls.{commit_fault, not_held, ready_under}
+use Rattle.node_calls.specs.Calls.{commit_fault, not_held, ready_under}
 use Rattle.std.specs.Option.{option_or}
 use Rattle.px_node.proofs.shelf.ShelfNode.commit.Goals as goal
 

@@ -1,0 +1,3 @@
+mod AddedLemmas
+mod HashLemmas
+mod ReadyLemmas

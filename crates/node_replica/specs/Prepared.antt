@@ -1,0 +1,46 @@
+-- When a push is ready to be done at a replica, and why it is not.
+use Rattle.std.specs.Prelude.{◌≡◌, ◌≤◌, ℕ, List, None, true}
+use Rattle.px_base.specs.RefList.{IsRefList}
+use Rattle.px_base.specs.declared.hash.Hash.{Hash}
+use Rattle.px_base.specs.declared.push.Push.{Push}
+use Rattle.objstore.specs.Bundle.{bundle_fault}
+use Rattle.objstore.specs.Reach.{IsClosed, Objects}
+use Rattle.refstore.specs.Hook.{vote_on}
+use Rattle.refstore.specs.Updates.{Fits, after}
+use Rattle.node_calls.specs.Calls.{Lacks, PrepareRefuses, new_tips, prepare_refusal, with_coming}
+use Rattle.node_rows.specs.Place.{Place}
+use Rattle.node_replica.specs.Hashes.{GiveHashes}
+use Rattle.node_calls.specs.declared.node.NodeError.{NodeError}
+use Rattle.node_calls.specs.declared.node.NodeError.TheVariants.{Fault, Memory, Refused}
+use Rattle.node_replica.specs.declared.replica.Ready.{Ready}
+
+-- an object is missed, or memory wants
+abbrev pub IsMissing : Objects → List Hash → NodeError → Type 0
+IsMissing objects tips (Refused r) = Lacks objects tips r
+IsMissing objects tips Memory = Unit {0}
+IsMissing objects tips Fault = ⊥
+
+-- the push may be ready at the place, and has the references that it would leave, and its vote
+pub record IsReadyAt (ready : Ready) (place : Place) : Type 0 where
+  pub held : place.held ≡ true
+  pub above : place.fence ≤ ready.lease
+  pub leaves : ready.prepared.refs ≡ after place.refs ready.push.updates
+  pub vote : ready.prepared.vote ≡ vote_on ready.push.updates
+  pub list : IsRefList place.refs
+  pub fits : Fits ready.push.updates place.refs
+  pub ids : GiveHashes ready.push.updates
+  pub comes : bundle_fault place.objects 0 ready.push.objects ≡ None
+
+-- the push is accepted, and this is it, ready
+pub record IsPrepared (lease : ℕ) (push : Push) (place : Place) (ready : Ready) : Type 0 where
+  pub accepted : prepare_refusal lease push place ≡ None
+  pub closed : IsClosed (with_coming place push.objects) (new_tips push.updates)
+  pub lease_is : ready.lease ≡ lease
+  pub push_is : ready.push ≡ push
+  pub at : IsReadyAt ready place
+
+-- it is refused, or memory wants
+abbrev pub IsNotPrepared : ℕ → Push → Place → NodeError → Type 0
+IsNotPrepared lease push place (Refused r) = PrepareRefuses lease push place r
+IsNotPrepared lease push place Memory = Unit {0}
+IsNotPrepared lease push place Fault = ⊥

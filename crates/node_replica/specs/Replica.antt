@@ -1,0 +1,40 @@
+-- What a node over a keeper has of one repository, and how its ready push stands.
+use Rattle.std.specs.Prelude.{◌≡◌, ℕ, Bool, true, false, [], Option, None, Some}
+use Rattle.px_base.specs.RefList.{IsRefList, References}
+use Rattle.objstore.specs.Bundle.{bundle_fault}
+use Rattle.objstore.specs.Entries.{Entries}
+use Rattle.refstore.specs.Hook.{vote_on}
+use Rattle.refstore.specs.Updates.{Fits, after}
+use Rattle.node_rows.specs.Place.{ReadyPush}
+use Rattle.node_replica.specs.Hashes.{GiveHashes}
+use Rattle.node_replica.specs.declared.replica.Ready.{Ready}
+
+-- the ready push, without the references that it would leave
+abbrev pub push_of : Option Ready → Option ReadyPush
+push_of None = None
+push_of (Some ready) = Some (record {
+  lease = ready.lease;
+  updates = ready.push.updates;
+  objects = ready.push.objects;
+})
+
+-- the references are what a repository may have; a ready push has those that it would leave and its
+-- vote, its updates may be done and give ids of 20 bytes, its objects may come, and its lease is the
+-- fence
+pub record IsReady (refs : References) (objects : Entries) (fence : ℕ) (ready : Ready) : Type 0 where
+  pub leaves : ready.prepared.refs ≡ after refs ready.push.updates
+  pub vote : ready.prepared.vote ≡ vote_on ready.push.updates
+  pub list : IsRefList refs
+  pub fits : Fits ready.push.updates refs
+  pub ids : GiveHashes ready.push.updates
+  pub comes : bundle_fault objects 0 ready.push.objects ≡ None
+  pub lease : ready.lease ≡ fence
+
+abbrev pub AreReady : References → Entries → ℕ → Option Ready → Type 0
+AreReady refs objects fence None = Unit {0}
+AreReady refs objects fence (Some ready) = IsReady refs objects fence ready
+
+-- what is not held has nothing but its fence and its last lease
+abbrev pub IsEmptyUnless : Bool → References → Entries → Option Ready → Type 0
+IsEmptyUnless true refs objects ready = Unit {0}
+IsEmptyUnless false refs objects ready = (refs ≡ []) × (objects ≡ []) × (ready ≡ None)

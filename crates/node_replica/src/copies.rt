@@ -1,0 +1,81 @@
+//! Copies of what a push brings, and the objects that it gives to names.
+
+ghost use Rattle.std.specs.Prelude.{◌≡◌, IfOk, OnOk};
+ghost use Rattle.std.specs.List.{AllByRecursion};
+ghost use Rattle.std.specs.Map.{values_of};
+ghost use Rattle.px_base.specs.Hash.{IsHash};
+ghost use Rattle.node_calls.specs.Calls.{new_tips};
+ghost use Rattle.node_replica.specs.Hashes.{GiveHashes};
+
+use px_base::{Ids, Object, ObjectId, Objects, Push, RefName, Update, Updates};
+use std::alloc::{AllocError, Global};
+
+/// A copy of the push.
+pub(crate) fn copied_push(alloc: Global, push: &Push) -> Result<Push, AllocError>
+    ensures value { IfOk result (λ copied. copied ≡ push.now) }
+    ensures ids { OnOk result (GiveHashes push.now.updates) }
+{
+    let updates = copied_updates(alloc, push.updates.as_slice())?;
+    let objects = copied_objects(alloc, push.objects.as_slice())?;
+    Ok(Push { updates, objects })
+}
+
+fn copied_updates(alloc: Global, updates: &[Update]) -> Result<Updates, AllocError>
+    ensures value { IfOk result (λ copied. copied ≡ updates.now) }
+    ensures ids { OnOk result (GiveHashes updates.now) }
+{
+    let mut copied = Updates::new(alloc);
+    for update in updates {
+        is_hash(&update.new);
+        copied.push(Update {
+            old: update.old,
+            new: update.new,
+            name: update.name.copy(alloc)?,
+        })?;
+    }
+    Ok(copied)
+}
+
+fn copied_objects(alloc: Global, objects: &[Object]) -> Result<Objects, AllocError>
+    ensures { IfOk result (λ copied. copied ≡ objects.now) }
+{
+    let mut copied = Objects::new(alloc);
+    for object in objects {
+        copied.push(object.copy(alloc)?)?;
+    }
+    Ok(copied)
+}
+
+/// The objects that the updates give to names, in their order; a deletion gives none.
+pub(crate) fn tips_of(alloc: Global, updates: &[Update]) -> Result<Ids, AllocError>
+    ensures { IfOk result (λ tips. tips ≡ new_tips updates.now) }
+{
+    let mut tips = Ids::new(alloc);
+    for update in updates {
+        if !update.new.is_zero() {
+            tips.push(update.new)?;
+        }
+    }
+    Ok(tips)
+}
+
+/// The objects that references name, in the order of the names.
+pub(crate) fn named_by(alloc: Global, refs: &[(RefName, ObjectId)]) -> Result<Ids, AllocError>
+    ensures value { IfOk result (λ ids. ids ≡ values_of refs.now) }
+    ensures ids { OnOk result (AllByRecursion IsHash (values_of refs.now)) }
+{
+    let mut ids = Ids::new(alloc);
+    for (_, id) in refs {
+        is_hash(id);
+        ids.push(*id)?;
+    }
+    Ok(ids)
+}
+
+// Tells the proof that an id has 20 bytes: it knows so once they are read as a slice.
+fn is_hash(id: &ObjectId)
+    ensures { IsHash id.now }
+{
+    let bytes: &[u8] = &id.0;
+    let _first = bytes[0];
+}

@@ -1,0 +1,551 @@
+//! What a node has of one repository, and what each call does to it.
+
+ghost use Rattle.std.specs.Prelude.{◌≡◌, ◌<◌, Err, ◌+◌, ◌≤◌, [], IfOk, IfErr, OnOk, OnErr, IsSome, IfSome, None, Some, true, false};
+ghost use Rattle.node_calls.specs.Calls.{aborted, abort_refusal, apply_refusal, commit_refusal, created, create_refusal, fenced, not_held, prepared, ready_under, removed, with_coming};
+ghost use Rattle.node_replica.specs.Checks.{IsNoRefusal, Reads, Tests};
+ghost use Rattle.node_calls.specs.Reads.{HasObject, HasRefs, IsSnapshot};
+ghost use Rattle.node_rows.specs.Lawful.{IsLawfulPlace};
+ghost use Rattle.node_rows.specs.Place.{Place, nothing, raised};
+ghost use Rattle.node_replica.specs.Hashes.{NameHashes};
+ghost use Rattle.px_base.specs.Hash.{IsHash};
+ghost use Rattle.node_rows.specs.Reading.{said, with_one, with_ref};
+ghost use Rattle.node_replica.specs.Told.{IsNew, MayHaveObject, MayHaveRef};
+ghost use Rattle.node_replica.specs.Kept.{Keeps};
+ghost use Rattle.node_rows.specs.Writes.{applied_rows, committed_rows, emptied_rows, fenced_rows};
+ghost use Rattle.objstore.specs.Entries.{object_in};
+ghost use Rattle.objstore.specs.Reach.{IsClosed};
+ghost use Rattle.node_replica.specs.Effects.{DoesReady, IsNotApplied, MayBeDone, taken_over};
+ghost use Rattle.node_calls.specs.Ends.{NodeHasCause};
+ghost use Rattle.std.specs.Map.{values_of};
+ghost use Rattle.px_base.specs.RefList.{IsRefList};
+ghost use Rattle.px_base.specs.RepoPath.{IsRepoPath};
+ghost use Rattle.objstore.specs.Bundle.{bundle_fault, with_object};
+ghost use Rattle.node_replica.specs.Prepared.{IsMissing, IsNotPrepared, IsPrepared, IsReadyAt};
+
+use crate::copies::{copied_push, named_by, tips_of};
+use crate::kept::keep_with;
+use crate::refused::{objects_refused, updates_refused};
+use node_calls::{NodeError, NodeRefusal, Snapshot};
+use node_rows::{ReplicaRow, add_objects, add_push, add_refs, begun, remove_objects};
+use objstore::{ClosedFault, Put, PutFault, Store, bundle};
+use px_base::{Hash, Lease, Object, ObjectId, Push, RefList, RefName, RepoPath};
+use px_keeper::{Batch, Keeper};
+use refstore::{Prepared, RefRefusal, Refs};
+use std::alloc::{AllocError, Global};
+use std::marker::Model;
+
+/// Why a row was not taken over.
+#[derive(Clone, Copy, Debug, PartialEq, Eq)]
+pub enum NotTaken {
+    /// A node may not have it, with the rows before it.
+    BadRow,
+    /// Memory wanted.
+    Memory,
+}
+
+impl From<AllocError> for NotTaken {
+    ghost use Rattle.std.specs.Prelude.{◌≡◌};
+    ghost use Rattle.node_replica.specs.declared.replica.NotTaken.TheVariants.{Memory};
+
+    ghost from_gives = { λ _ e. e ≡ Memory };
+
+    fn from(_: AllocError) -> NotTaken {
+        NotTaken::Memory
+    }
+}
+
+/// A push that is ready to be done.
+#[derive(Drop)]
+pub struct Ready {
+    /// The lease that it came under.
+    pub lease: Lease,
+    /// The push.
+    pub push: Push,
+    /// The references that it would leave, and its vote.
+    pub prepared: Prepared,
+}
+
+/// What a node has of one repository.
+#[derive(Drop)]
+pub struct Replica {
+    held: bool,
+    refs: Refs,
+    objects: Store,
+    fence: u64,
+    last: Option<Lease>,
+    ready: Option<Ready>,
+}
+
+impl Model for Replica {
+    ghost use Rattle.node_rows.specs.Place.{Place};
+    ghost use Rattle.node_replica.specs.Hashes.{NameHashes};
+    ghost use Rattle.node_replica.specs.Replica.{AreReady, IsEmptyUnless, push_of};
+
+    ghost Value = { Place };
+
+    ghost view = { λ r. record {
+      held = r.held;
+      refs = r.refs;
+      objects = r.objects;
+      fence = r.fence;
+      last = r.last;
+      ready = push_of r.ready;
+    } };
+
+    ghost invariant = { λ r. AreReady r.refs r.objects r.fence r.ready
+        × IsEmptyUnless r.held r.refs r.objects r.ready × NameHashes r.refs };
+}
+
+impl Replica {
+    /// Nothing. It takes no memory yet.
+    pub fn new(alloc: Global) -> Replica
+        ensures { result ≡ nothing }
+    {
+        Replica {
+            held: false,
+            refs: Refs::new(alloc),
+            objects: Store::new(alloc),
+            fence: 0,
+            last: None,
+            ready: None,
+        }
+    }
+
+    /// What a row tells of a repository, with no references and no objects yet.
+    pub fn told(alloc: Global, row: ReplicaRow) -> Replica
+        ensures { result ≡ said row.fence row.last row.held }
+    {
+        Replica {
+            held: row.held,
+            refs: Refs::new(alloc),
+            objects: Store::new(alloc),
+            fence: row.fence,
+            last: row.last,
+            ready: None,
+        }
+    }
+
+    /// Takes over a reference that a row tells.
+    pub fn take_ref(&mut self, alloc: Global, name: RefName, id: ObjectId) -> Result<(), NotTaken>
+        requires unready { self.old.ready ≡ None }
+        requires hash { IsHash id }
+        ensures ok { OnOk result (self.new ≡ with_ref name id self.old) }
+        ensures accepted { OnOk result (MayHaveRef self.old name id) }
+        ensures bad { result ≡ Err NotTaken.BadRow → ¬ (MayHaveRef self.old name id) }
+    {
+        if !self.held {
+            return Err(NotTaken::BadRow);
+        }
+        match self.refs.create(alloc, name, id) {
+            Ok(()) => Ok(()),
+            Err(RefRefusal::Memory) => Err(NotTaken::Memory),
+            Err(_) => Err(NotTaken::BadRow),
+        }
+    }
+
+    /// Takes over an object that a row tells under an id.
+    pub fn take_object(
+        &mut self,
+        alloc: Global,
+        id: &ObjectId,
+        object: &Object,
+    ) -> Result<(), NotTaken>
+        requires unready { self.old.ready ≡ None }
+        ensures ok { OnOk result (self.new ≡ with_one object.now self.old) }
+        ensures accepted { OnOk result (MayHaveObject self.old id.now object.now) }
+        ensures bad { result ≡ Err NotTaken.BadRow
+            → ¬ (MayHaveObject self.old id.now object.now) }
+    {
+        if !self.held || objstore::name_of(object.kind(), object.content()) != *id {
+            return Err(NotTaken::BadRow);
+        }
+        put_new(alloc, &mut self.objects, object)
+    }
+
+    /// Tells the proof what its types keep.
+    pub fn is_lawful(&self)
+        ensures { IsLawfulPlace self.now }
+    {
+        let _refs = self.refs.len();
+        let _objects = self.objects.len();
+        let _fence = self.fence;
+        if let Some(lease) = self.last {
+            let _last = lease.number();
+        }
+    }
+
+    /// Whether the lease is not below the fence.
+    pub fn admits(&self, lease: Lease) -> Result<(), NodeError>
+        ensures { Tests (fenced lease self.now) result }
+    {
+        if lease.number() < self.fence {
+            let fence = self.fence;
+            return Err(NodeError::Refused(NodeRefusal::Fenced { fence }));
+        }
+        Ok(())
+    }
+
+    /// Whether it is held.
+    pub fn is_held(&self) -> Result<(), NodeError>
+        ensures { Tests (not_held self.now) result }
+    {
+        if !self.held {
+            return Err(NodeError::Refused(NodeRefusal::NoRepo));
+        }
+        Ok(())
+    }
+
+    /// Whether it may be created.
+    pub fn may_create(&self, lease: Lease) -> Result<(), NodeError>
+        ensures { Tests (create_refusal lease self.now) result }
+    {
+        self.admits(lease)?;
+        if self.held && !self.refs.is_empty() {
+            return Err(NodeError::Refused(NodeRefusal::RepoExists));
+        }
+        Ok(())
+    }
+
+    /// Whether its ready push may be dropped.
+    pub fn may_abort(&self, lease: Lease) -> Result<(), NodeError>
+        ensures { Tests (abort_refusal lease self.now) result }
+    {
+        self.admits(lease)?;
+        self.is_held()
+    }
+
+    /// The push, ready to be done, where it may be.
+    pub fn prepared(&self, alloc: Global, lease: Lease, push: &Push) -> Result<Ready, NodeError>
+        ensures ok { IfOk result (IsPrepared lease push.now self.now) }
+        ensures err { IfErr result (IsNotPrepared lease push.now self.now) }
+    {
+        self.admits(lease)?;
+        self.is_held()?;
+        let extra = match bundle(alloc, &self.objects, push.objects.as_slice()) {
+            Ok(extra) => extra,
+            Err(fault) => return Err(objects_refused(fault)),
+        };
+        let prepared = match Prepared::new(alloc, &self.refs, push.updates.as_slice()) {
+            Ok(prepared) => prepared,
+            Err(refusal) => return Err(updates_refused(refusal)),
+        };
+        let tips = tips_of(alloc, push.updates.as_slice())?;
+        self.has_all(alloc, tips.as_slice(), &extra)?;
+        let push = copied_push(alloc, push)?;
+        Ok(Ready {
+            lease,
+            push,
+            prepared,
+        })
+    }
+
+    // Whether all that is reachable from the tips is here or among these objects.
+    fn has_all(&self, alloc: Global, tips: &[ObjectId], extra: &Store) -> Result<(), NodeError>
+        ensures ok { OnOk result (IsClosed (object_in self.now.objects extra.now) tips.now) }
+        ensures err { IfErr result
+            (IsMissing (object_in self.now.objects extra.now) tips.now) }
+    {
+        match self.objects.closed(alloc, tips, extra) {
+            Ok(()) => Ok(()),
+            Err(ClosedFault::Missing(id)) => Err(NodeError::Refused(NodeRefusal::Missing { id })),
+            Err(ClosedFault::Memory) => Err(NodeError::Memory),
+        }
+    }
+
+    /// Makes a push ready, and drops any other one.
+    pub fn prepare(&mut self, ready: Ready)
+        requires { IsReadyAt ready self.old }
+        ensures { self.new ≡ prepared ready.lease ready.push self.old }
+    {
+        self.fence = ready.lease.number();
+        self.ready = Some(ready);
+    }
+
+    /// Holds it, with no references and no objects.
+    pub fn create(&mut self, alloc: Global, lease: Lease)
+        requires { self.old.fence ≤ lease }
+        ensures { self.new ≡ created lease self.old }
+    {
+        self.ready = None;
+        self.held = true;
+        self.refs = Refs::new(alloc);
+        self.objects = Store::new(alloc);
+        self.fence = lease.number() + 1;
+    }
+
+    /// Holds it no longer.
+    pub fn remove(&mut self, alloc: Global, lease: Lease)
+        requires { self.old.fence ≤ lease }
+        ensures { self.new ≡ removed lease self.old }
+    {
+        self.ready = None;
+        self.held = false;
+        self.refs = Refs::new(alloc);
+        self.objects = Store::new(alloc);
+        self.fence = lease.number() + 1;
+    }
+
+    /// Drops its ready push.
+    pub fn abort(&mut self, lease: Lease)
+        requires { self.old.fence ≤ lease }
+        ensures { self.new ≡ aborted lease self.old }
+    {
+        self.ready = None;
+        self.fence = lease.number() + 1;
+    }
+
+    /// Raises its fence to the number, where that is above it.
+    pub fn raise(&mut self, to: Lease)
+        ensures { self.new ≡ raised to self.old }
+    {
+        if to.number() > self.fence {
+            self.fence = to.number();
+            self.ready = None;
+        }
+    }
+
+    /// Whether its ready push may be done.
+    pub fn may_commit(&self, lease: Lease, hash: &Hash) -> Result<(), NodeError>
+        ensures { Tests (commit_refusal lease hash.now self.now) result }
+    {
+        self.admits(lease)?;
+        self.is_held()?;
+        let have = match &self.ready {
+            Some(ready) if ready.lease == lease => ready.prepared.vote(),
+            _ => return Err(NodeError::Refused(NodeRefusal::NotPrepared)),
+        };
+        if have != *hash {
+            return Err(NodeError::Refused(NodeRefusal::VoteDiffers { have }));
+        }
+        Ok(())
+    }
+
+    /// Does its ready push, once the keeper has kept the rows that this changes.
+    pub fn commit<K: Keeper>(
+        &mut self,
+        alloc: Global,
+        keeper: &mut K,
+        batch: &Batch,
+        lease: Lease,
+    ) -> Result<Hash, NodeError>
+        requires above { self.old.fence ≤ lease }
+        requires held { self.old.held ≡ true }
+        requires ready { IsSome (ready_under lease self.old.ready) }
+        ensures ok { IfOk result (DoesReady lease self.old self.new) }
+        ensures kept { OnOk result (Keeps batch.now (K.rows keeper.old) (K.rows keeper.new)) }
+        ensures err { OnErr result (self.new ≡ self.old) }
+        ensures err_rows { OnErr result (K.rows keeper.new ≡ K.rows keeper.old) }
+        ensures known { IfErr result IsNoRefusal }
+        ensures cause { NodeHasCause (K.keep_faults keeper.old) (K.keep_faults keeper.new) result }
+    {
+        let Some(ready) = self.ready.take() else {
+            // A push is ready, as the caller knows.
+            return Err(NodeError::Memory);
+        };
+        let objects = ready.push.objects.as_slice();
+        if let Err(error) = keep_with(alloc, keeper, batch, &mut self.objects, objects) {
+            self.ready = Some(ready);
+            return Err(error);
+        }
+        let vote = ready.prepared.vote();
+        ready.prepared.commit(&mut self.refs);
+        self.last = Some(lease);
+        self.fence = lease.number() + 1;
+        Ok(vote)
+    }
+
+    /// The references of a snapshot, where it may be applied.
+    pub fn may_apply(
+        &self,
+        alloc: Global,
+        lease: Lease,
+        snapshot: &Snapshot,
+    ) -> Result<Refs, NodeError>
+        ensures ok { IfOk result (λ refs. refs ≡ snapshot.now.refs) }
+        ensures accepted { OnOk result (apply_refusal lease snapshot.now self.now ≡ None) }
+        ensures comes { OnOk result
+            (bundle_fault self.now.objects 0 snapshot.now.objects ≡ None) }
+        ensures list { OnOk result (IsRefList snapshot.now.refs) }
+        ensures ids { OnOk result (NameHashes snapshot.now.refs) }
+        ensures closed { OnOk result (IsClosed (with_coming self.now snapshot.now.objects)
+            (values_of snapshot.now.refs)) }
+        ensures err { IfErr result (IsNotApplied lease snapshot.now self.now) }
+    {
+        self.admits(lease)?;
+        let extra = match bundle(alloc, &self.objects, snapshot.objects.as_slice()) {
+            Ok(extra) => extra,
+            Err(fault) => return Err(objects_refused(fault)),
+        };
+        let tips = named_by(alloc, snapshot.refs.as_slice())?;
+        self.has_all(alloc, tips.as_slice(), &extra)?;
+        Ok(Refs::of_list(alloc, &snapshot.refs)?)
+    }
+
+    /// Takes the references and the objects of a snapshot, once the keeper has kept the rows that this
+    /// changes.
+    pub fn apply<K: Keeper>(
+        &mut self,
+        alloc: Global,
+        keeper: &mut K,
+        batch: &Batch,
+        lease: Lease,
+        refs: Refs,
+        objects: &[Object],
+    ) -> Result<(), NodeError>
+        requires above { self.old.fence ≤ lease }
+        requires comes { bundle_fault self.old.objects 0 objects.now ≡ None }
+        requires ids { NameHashes refs }
+        ensures ok { OnOk result (self.new ≡ taken_over lease refs objects.now self.old) }
+        ensures kept { OnOk result (Keeps batch.now (K.rows keeper.old) (K.rows keeper.new)) }
+        ensures err { OnErr result (self.new ≡ self.old) }
+        ensures err_rows { OnErr result (K.rows keeper.new ≡ K.rows keeper.old) }
+        ensures known { IfErr result IsNoRefusal }
+        ensures cause { NodeHasCause (K.keep_faults keeper.old) (K.keep_faults keeper.new) result }
+    {
+        let ready = self.ready.take();
+        if let Err(error) = keep_with(alloc, keeper, batch, &mut self.objects, objects) {
+            self.ready = ready;
+            return Err(error);
+        }
+        self.held = true;
+        self.refs = refs;
+        self.fence = lease.number() + 1;
+        Ok(())
+    }
+
+    /// Its references, where it is held.
+    pub fn refs(&self, alloc: Global) -> Result<RefList, NodeError>
+        ensures { Reads HasRefs self.now result }
+    {
+        self.is_held()?;
+        Ok(self.refs.list(alloc)?)
+    }
+
+    /// A copy of its object of that id, where it is held.
+    pub fn object(&self, alloc: Global, id: &ObjectId) -> Result<Option<Object>, NodeError>
+        ensures { Reads (HasObject id.now) self.now result }
+    {
+        self.is_held()?;
+        match self.objects.get(id) {
+            Some(object) => Ok(Some(object.copy(alloc)?)),
+            None => Ok(None),
+        }
+    }
+
+    /// Its references, and the objects that the walk from them takes, where it is held.
+    pub fn snapshot(&self, alloc: Global) -> Result<Snapshot, NodeError>
+        ensures { Reads IsSnapshot self.now result }
+    {
+        self.is_held()?;
+        let refs = self.refs.list(alloc)?;
+        let tips = named_by(alloc, refs.as_slice())?;
+        let objects = self.objects.reached(alloc, tips.as_slice())?;
+        Ok(Snapshot { refs, objects })
+    }
+
+    /// Whether it is held.
+    pub fn holds(&self) -> bool
+        ensures { result ≡ self.now.held }
+    {
+        self.held
+    }
+
+    /// The lease of the last push that was done.
+    pub fn last(&self) -> Option<Lease>
+        ensures { result ≡ self.now.last }
+    {
+        self.last
+    }
+
+    /// Whether its fence is below the lease. Where it is not, to raise it to that changes nothing.
+    pub fn is_below(&self, lease: Lease) -> bool
+        ensures below { result ≡ true → self.now.fence < lease }
+        ensures above { result ≡ false → raised lease self.now ≡ self.now }
+    {
+        self.fence < lease.number()
+    }
+
+    /// The rows that change where it is created or removed under the lease, and is then held or not.
+    pub fn rows_emptied(
+        &self,
+        alloc: Global,
+        repo: &RepoPath,
+        lease: Lease,
+        held: bool,
+    ) -> Result<Batch, AllocError>
+        ensures batch { IfOk result (λ batch. batch ≡ emptied_rows repo.now lease held self.now) }
+        ensures path { OnOk result (IsRepoPath repo.now) }
+    {
+        let mut batch = begun(alloc, repo, lease.number() + 1, self.last, held)?;
+        add_refs(alloc, &mut batch, repo, &self.refs, &Refs::new(alloc))?;
+        remove_objects(alloc, &mut batch, repo, &self.objects)?;
+        Ok(batch)
+    }
+
+    /// The row that changes where its fence comes to be this.
+    pub fn rows_fenced(
+        &self,
+        alloc: Global,
+        repo: &RepoPath,
+        fence: u64,
+    ) -> Result<Batch, AllocError>
+        ensures batch { IfOk result (λ batch. batch ≡ fenced_rows repo.now fence self.now) }
+        ensures path { OnOk result (IsRepoPath repo.now) }
+    {
+        begun(alloc, repo, fence, self.last, self.held)
+    }
+
+    /// The rows that change where its ready push is done.
+    pub fn rows_committed(
+        &self,
+        alloc: Global,
+        repo: &RepoPath,
+        lease: Lease,
+    ) -> Result<Batch, AllocError>
+        ensures rows { IfOk result (λ batch. IfSome self.now.ready
+            (λ push. batch ≡ committed_rows repo.now lease push self.now)) }
+        ensures ready { OnOk result (IfSome self.now.ready (MayBeDone self.now)) }
+        ensures path { OnOk result (IsRepoPath repo.now) }
+    {
+        let mut batch = begun(alloc, repo, lease.number() + 1, Some(lease), true)?;
+        if let Some(ready) = &self.ready {
+            add_push(alloc, &mut batch, repo, &self.objects, &ready.push)?;
+        }
+        Ok(batch)
+    }
+
+    /// The rows that change where a snapshot with these references is applied.
+    pub fn rows_applied(
+        &self,
+        alloc: Global,
+        repo: &RepoPath,
+        lease: Lease,
+        refs: &Refs,
+        objects: &[Object],
+    ) -> Result<Batch, AllocError>
+        ensures batch { IfOk result
+            (λ batch. batch ≡ applied_rows repo.now lease refs.now objects.now self.now) }
+        ensures path { OnOk result (IsRepoPath repo.now) }
+    {
+        let mut batch = begun(alloc, repo, lease.number() + 1, self.last, true)?;
+        add_refs(alloc, &mut batch, repo, &self.refs, refs)?;
+        add_objects(alloc, &mut batch, repo, &self.objects, objects)?;
+        Ok(batch)
+    }
+}
+
+// Puts an object that the store does not have.
+fn put_new(alloc: Global, store: &mut Store, object: &Object) -> Result<(), NotTaken>
+    ensures ok { OnOk result (store.new ≡ with_object store.old object.now) }
+    ensures accepted { OnOk result (IsNew store.old object.now) }
+    ensures bad { result ≡ Err NotTaken.BadRow → ¬ (IsNew store.old object.now) }
+{
+    let _count = store.len();
+    match store.put(alloc, object) {
+        Ok(Put::Added) => Ok(()),
+        Ok(Put::Present) => Err(NotTaken::BadRow),
+        Err(PutFault::BadObject { .. }) => Err(NotTaken::BadRow),
+        Err(PutFault::Collision { .. }) => Err(NotTaken::BadRow),
+        Err(PutFault::Memory) => Err(NotTaken::Memory),
+    }
+}

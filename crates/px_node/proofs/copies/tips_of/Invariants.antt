@@ -1,7 +1,0 @@
-use Rattle.std.proofs.Common.{◌≡◌, ◌++◌, drop}
-use Rattle.px_node.specs.Calls.{new_tips}
-use Rattle.px_node.proofs.copies.tips_of.Given as goal
-
--- those so far, and those of what is left, are all
-abbrev pub invariant-loop-update : goal.invariant-loop-update
-invariant-loop-update l = l.tips ++ new_tips (drop l.update-index l.updates) ≡ new_tips l.updates

@@ -1,5 +1,0 @@
-use Rattle.px_node.proofs.SoundLemmas.{nothing_is_sound, run_is_sound, step_is_sound}
-use Rattle.px_node.proofs.laws.what_is_held_is_closed.Goals as goal
-
-pub returns : goal.returns
-returns c = record { first = nothing_is_sound; step = step_is_sound; run = run_is_sound }

@@ -2,18 +2,18 @@
 
 use px_base::Bytes;
 use px_keeper::{Batch, KeepFault, Keeper, MemKeeper};
-use std::alloc::Global;
+use std::alloc::{AllocError, Global};
 use std::test::Fail;
 
 // A row as `TABLE KEY=VALUE`, key and value in hexadecimal.
-fn row(alloc: Global, table: u8, key: &Bytes, value: &Bytes) -> Result<String, Fail> {
+fn row(alloc: Global, table: u8, key: &Bytes, value: &Bytes) -> Result<String, AllocError> {
     let key = hex::encode(alloc, key.as_slice())?;
     let value = hex::encode(alloc, value.as_slice())?;
-    Ok(format!(in alloc; "{table} {key}={value} ")?)
+    format!(in alloc; "{table} {key}={value} ")
 }
 
-// All rows of the tables 6 to 8, in order.
-pub fn rows<K: Keeper>(alloc: Global, keeper: &mut K) -> Result<String, Fail> {
+/// All rows of the tables 6 to 8, in order, up to a scan that fails.
+pub fn rows<K: Keeper>(alloc: Global, keeper: &mut K) -> Result<String, AllocError> {
     let mut shown = String::new(alloc);
     for table in 6u8..9 {
         let mut after = Bytes::new(alloc);
@@ -27,60 +27,108 @@ pub fn rows<K: Keeper>(alloc: Global, keeper: &mut K) -> Result<String, Fail> {
                     first = false;
                 }
                 Ok(None) => break,
-                Err(_) => return Err(Fail::new("a scan failed")),
+                Err(_) => {
+                    shown.push_str("a scan failed")?;
+                    return Ok(shown);
+                }
             }
         }
     }
     Ok(shown)
 }
 
-// Puts of rows in a row, each as a digit for the table, a letter for the key and a letter for the
-// value, or a removal where the value is `-`.
-fn batch(alloc: Global, text: &[u8]) -> Result<Batch, Fail> {
+// Rows that are put, each as a digit for the table, a letter for the key and a letter for the value,
+// or taken away where the value is `-`.
+fn batch(alloc: Global, words: &str) -> Result<Batch, AllocError> {
     let mut batch = Batch::new(alloc);
-    for word in text.chunks_exact(3) {
-        let table = word[0].wrapping_sub(b'0');
-        if word[2] == b'-' {
-            batch.remove(alloc, table, &word[1..2])?;
-        } else {
-            batch.put(alloc, table, &word[1..2], &word[2..])?;
+    for word in words.split_whitespace() {
+        match word.as_bytes() {
+            [digit, key, b'-'] => batch.remove(alloc, digit.wrapping_sub(b'0'), &[*key])?,
+            [digit, key, value] => batch.put(alloc, digit.wrapping_sub(b'0'), &[*key], &[*value])?,
+            _ => {}
         }
     }
     Ok(batch)
 }
 
+fn commit(alloc: Global, keeper: &mut MemKeeper, words: &str) -> Result<&'static str, AllocError> {
+    let batch = batch(alloc, words)?;
+    Ok(match keeper.commit(&batch) {
+        Ok(()) => "ok",
+        Err(KeepFault::Failed) => "failed",
+        Err(KeepFault::Memory) => "memory",
+    })
+}
+
+// The value of a row, given as a digit for the table and a letter for the key.
+fn get(alloc: Global, keeper: &mut MemKeeper, row: &str) -> Result<String, AllocError> {
+    let [digit, key] = row.as_bytes() else {
+        return String::from_str(alloc, "no row");
+    };
+    match keeper.get(alloc, digit.wrapping_sub(b'0'), &[*key]) {
+        Ok(Some(value)) => hex::encode(alloc, value.as_slice()),
+        Ok(None) => String::from_str(alloc, "none"),
+        Err(_) => String::from_str(alloc, "failed"),
+    }
+}
+
+// What a keeper answers to a call.
+fn answer(alloc: Global, keeper: &mut MemKeeper, call: &str) -> Result<String, AllocError> {
+    match call.split_once(" ") {
+        Some(("commit", words)) => String::from_str(alloc, commit(alloc, keeper, words)?),
+        Some(("get", row)) => get(alloc, keeper, row.trim()),
+        Some(("faults", _)) => format!(in alloc; "{}", keeper.faults()),
+        _ => rows(alloc, keeper),
+    }
+}
+
+// The calls of a table that a keeper answers otherwise, with what it answers. A line is a call and,
+// after `->`, the answer that is wanted.
+fn amiss(alloc: Global, keeper: &mut MemKeeper, table: &str) -> Result<String, AllocError> {
+    let mut amiss = String::new(alloc);
+    for line in table.lines() {
+        let (call, want) = line.split_once("->").unwrap_or((line, ""));
+        let told = answer(alloc, keeper, call.trim_start())?;
+        if told.as_str().trim() != want.trim() {
+            amiss.push_str(call)?;
+            amiss.push_str(told.as_str())?;
+        }
+    }
+    Ok(amiss)
+}
+
+// The calls of a table that a keeper with no rows answers otherwise, of which these calls fail.
+fn amiss_at_first(alloc: Global, failing: &[u64], table: &str) -> Result<String, AllocError> {
+    let mut keeper = MemKeeper::new(alloc, Vec::from_slice(alloc, failing)?);
+    amiss(alloc, &mut keeper, table)
+}
+
+const WHOLE: &str = "\
+    commit 7b1 7a2 6c3 7b4 8d5 8d- 6x- -> ok
+    rows -> 6 63=33 7 61=32 7 62=34
+    get 7b -> 34
+    get 8d -> none
+    commit -> ok
+    faults of it -> 0";
+
 #[test]
 fn a_batch_is_kept_whole_and_in_order(rt: HostRuntime) -> Result<(), Fail> {
-    let alloc = rt.alloc();
-    let mut keeper = MemKeeper::new(alloc, Vec::new(alloc));
-    let first = batch(alloc, b"7b17a26c37b48d58d-6x-")?;
-    assert_eq!(rt; first.len(), 7);
-    assert_eq!(rt; keeper.commit(&first), Ok(()));
-    let shown = rows(alloc, &mut keeper)?;
-    assert_eq!(rt; shown.as_str(), "6 63=33 7 61=32 7 62=34 ");
-    match keeper.get(alloc, 7, b"b") {
-        Ok(Some(value)) => assert_eq!(rt; value.as_slice(), b"4".as_slice()),
-        _ => assert!(rt; false),
-    }
-    assert!(rt; matches!(keeper.get(alloc, 8, b"d"), Ok(None)));
-    assert_eq!(rt; keeper.commit(&Batch::new(alloc)), Ok(()));
-    assert_eq!(rt; keeper.faults(), 0);
+    let amiss = amiss_at_first(rt.alloc(), &[], WHOLE)?;
+    assert_eq!(rt; amiss.as_str(), "");
     Ok(())
 }
 
+const FAILING: &str = "\
+    commit 6a1 -> ok
+    commit 6b2 6a- -> failed
+    get 6a -> failed
+    rows -> a scan failed
+    faults of it -> 3
+    rows -> 6 61=31";
+
 #[test]
 fn a_call_that_fails_does_nothing_and_is_counted(rt: HostRuntime) -> Result<(), Fail> {
-    let alloc = rt.alloc();
-    let failing = Vec::from_slice(alloc, &[2, 3, 4])?;
-    let mut keeper = MemKeeper::new(alloc, failing);
-    let one = batch(alloc, b"6a1")?;
-    let two = batch(alloc, b"6b26a-")?;
-    assert_eq!(rt; keeper.commit(&one), Ok(()));
-    assert_eq!(rt; keeper.commit(&two), Err(KeepFault::Failed));
-    assert!(rt; matches!(keeper.get(alloc, 6, b"a"), Err(KeepFault::Failed)));
-    assert!(rt; matches!(keeper.scan(alloc, 6, None), Err(KeepFault::Failed)));
-    assert_eq!(rt; keeper.faults(), 3);
-    let shown = rows(alloc, &mut keeper)?;
-    assert_eq!(rt; shown.as_str(), "6 61=31 ");
+    let amiss = amiss_at_first(rt.alloc(), &[2, 3, 4], FAILING)?;
+    assert_eq!(rt; amiss.as_str(), "");
     Ok(())
 }

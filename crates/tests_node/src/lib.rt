@@ -2,6 +2,10 @@
 #![tactic(auto)]
 
 #[cfg(test)]
+mod answers;
+#[cfg(test)]
+mod calls;
+#[cfg(test)]
 mod faulty;
 #[cfg(test)]
 mod keeper;
@@ -9,3 +13,5 @@ mod keeper;
 mod opening;
 #[cfg(test)]
 mod shelf;
+#[cfg(test)]
+mod words;

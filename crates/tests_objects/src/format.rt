@@ -5,212 +5,127 @@
 //! the name. The contents are those of `git cat-file`; the links are those of `git ls-tree`, of
 //! `git log --format='%T %P'` and of `git cat-file -p`.
 
+use crate::calls::{Answers, play};
+use crate::words::{content, kind};
 use object_format::{LinkFault, check, links, name_of};
-use px_base::{Bytes, Kind, ObjectId};
+use px_base::{Kind, ObjectId};
 use std::alloc::Global;
 use std::test::Fail;
 
-// The entries link, hello, module, run and zero of all modes.
-const TREE: &[u8] = b"100644 hello\0\xce\x016%\x03\x0b\xa8\xdb\xa9\x06\xf7V\x96\x7f\x9e\x9c\xa3\
-    \x94FJ120000 link\0\xce\x016%\x03\x0b\xa8\xdb\xa9\x06\xf7V\x96\x7f\x9e\x9c\xa3\x94FJ160000 \
-    module\0\x11\x11\x11\x11\x11\x11\x11\x11\x11\x11\x11\x11\x11\x11\x11\x11\x11\x11\x11\x11100755 \
-    run\0\xe6\x9d\xe2\x9b\xb2\xd1\xd6CK\x8b)\xaewZ\xd8\xc2\xe4\x8cS\x9140000 zero\0K\x82]\xc6B\xcbn\
-    \xb9\xa0`\xe5K\xf8\xd6\x92\x88\xfb\xeeI\x04";
-
-// One entry, a submodule.
-const MODULE: &[u8] = b"160000 lib\0\x11\x11\x11\x11\x11\x11\x11\x11\x11\x11\x11\x11\x11\x11\x11\
-    \x11\x11\x11\x11\x11";
-
-// The first commit of TREE.
-const FIRST: &[u8] = b"tree d78d5b69f10f34b32ae8e548c57c40936c4f449b\nauthor A <a@example.com> \
-    1700000000 +0000\ncommitter A <a@example.com> 1700000000 +0000\n\none\n";
-
-// A merge of three parents.
-const MERGE: &[u8] = b"tree d78d5b69f10f34b32ae8e548c57c40936c4f449b\nparent \
-    6d8ff996ebc72c235590a94fc7adda85f0b9b4f9\nparent 6381db84981fbd5d1934e2519da6c1e9d257c59d\n\
-    parent 291b8b5bf4a586d4c5e6f9c53f5d992e067bd8ef\nauthor A <a@example.com> 1700000000 +0000\n\
-    committer A <a@example.com> 1700000000 +0000\n\nmerge\n";
-
-// A tag of MERGE, and a tag of that tag.
-const TAG: &[u8] =
-    b"object 2dd81a79b098ce2ea66b500d3666923c8d983eba\ntype commit\ntag v1\ntagger A \
-    <a@example.com> 1700000000 +0000\n\nfirst\n";
-
-const TAG_OF_TAG: &[u8] = b"object 56c3f951c4aa1adf62c8a581290d34c972a3d0c1\ntype tag\ntag v2\n\
-    tagger A <a@example.com> 1700000000 +0000\n\nagain\n";
-
-// The names, with a space between each two.
-fn joined(alloc: Global, ids: &[ObjectId]) -> Result<Bytes, Fail> {
-    let mut text = Bytes::new(alloc);
+// The names, each after a space.
+fn joined(alloc: Global, ids: &[ObjectId]) -> Result<String, Fail> {
+    let mut text = String::new(alloc);
     for id in ids {
-        if !text.is_empty() {
-            text.push(b' ')?;
-        }
-        text.extend_from_slice(&id.text())?;
+        text.push_str(" ")?;
+        text.push_str(str::from_utf8(&id.text()).unwrap_or("?"))?;
     }
     Ok(text)
 }
 
-#[test]
-fn an_object_has_the_name_that_git_gives_it(rt: HostRuntime) {
-    let table = [
-        (
-            Kind::Blob,
-            b"".as_slice(),
-            b"e69de29bb2d1d6434b8b29ae775ad8c2e48c5391",
-        ),
-        (
-            Kind::Blob,
-            b"hello\n",
-            b"ce013625030ba8dba906f756967f9e9ca394464a",
-        ),
-        (Kind::Tree, b"", b"4b825dc642cb6eb9a060e54bf8d69288fbee4904"),
-        (
-            Kind::Tree,
-            MODULE,
-            b"572e85c9899d5fb69110eab1df80bed6b9991abe",
-        ),
-        (
-            Kind::Tree,
-            TREE,
-            b"d78d5b69f10f34b32ae8e548c57c40936c4f449b",
-        ),
-        (
-            Kind::Commit,
-            FIRST,
-            b"6d8ff996ebc72c235590a94fc7adda85f0b9b4f9",
-        ),
-        (
-            Kind::Commit,
-            MERGE,
-            b"2dd81a79b098ce2ea66b500d3666923c8d983eba",
-        ),
-        (Kind::Tag, TAG, b"56c3f951c4aa1adf62c8a581290d34c972a3d0c1"),
-        (
-            Kind::Tag,
-            TAG_OF_TAG,
-            b"1408ed15d457a0f7c5737b9b96f8ae10db96f3e2",
-        ),
-    ];
-    for (kind, content, want) in table {
-        assert_eq!(rt; name_of(kind, content).text().as_slice(), want.as_slice());
+// The links of an object, or its first bad byte, where checking it says the same.
+fn linked(alloc: Global, kind: Kind, content: &[u8]) -> Result<String, Fail> {
+    let bad = check(kind, content);
+    match links(alloc, kind, content) {
+        Ok(ids) if bad.is_none() => joined(alloc, ids.as_slice()),
+        Err(LinkFault::BadObject { at }) if bad == Some(at) => Ok(format!(in alloc; "bad {at}")?),
+        _ => Ok(String::from_str(alloc, "links and check differ")?),
     }
 }
 
-#[test]
-fn an_object_links_to_what_git_says(rt: HostRuntime) -> Result<(), Fail> {
-    let alloc = rt.alloc();
-    let table = [
-        (Kind::Blob, b"hello\n".as_slice(), b"".as_slice()),
-        (Kind::Tree, b"", b""),
-        (Kind::Tree, MODULE, b""),
-        (
-            Kind::Tree,
-            TREE,
-            b"ce013625030ba8dba906f756967f9e9ca394464a ce013625030ba8dba906f756967f9e9ca394464a \
-            e69de29bb2d1d6434b8b29ae775ad8c2e48c5391 4b825dc642cb6eb9a060e54bf8d69288fbee4904",
-        ),
-        (
-            Kind::Commit,
-            FIRST,
-            b"d78d5b69f10f34b32ae8e548c57c40936c4f449b",
-        ),
-        (
-            Kind::Commit,
-            MERGE,
-            b"d78d5b69f10f34b32ae8e548c57c40936c4f449b 6d8ff996ebc72c235590a94fc7adda85f0b9b4f9 \
-            6381db84981fbd5d1934e2519da6c1e9d257c59d 291b8b5bf4a586d4c5e6f9c53f5d992e067bd8ef",
-        ),
-        (Kind::Tag, TAG, b"2dd81a79b098ce2ea66b500d3666923c8d983eba"),
-        (
-            Kind::Tag,
-            TAG_OF_TAG,
-            b"56c3f951c4aa1adf62c8a581290d34c972a3d0c1",
-        ),
-    ];
-    for (kind, content, want) in table {
-        assert_eq!(rt; check(kind, content), None);
-        match links(alloc, kind, content) {
-            Ok(ids) => assert_eq!(rt; joined(alloc, ids.as_slice())?.as_slice(), want),
-            Err(_) => assert!(rt; false),
+// The code of objects. Each call has a kind and a content.
+#[derive(Clone, Copy)]
+struct Format;
+
+impl Answers for Format {
+    fn answer(&mut self, alloc: Global, name: &str, rest: &str) -> Result<String, Fail> {
+        let (word, text) = rest.split_once(" ").unwrap_or((rest, ""));
+        let kind = kind(word);
+        let content = content(alloc, text)?;
+        match name {
+            "name" => joined(alloc, &[name_of(kind, &content)]),
+            _ => linked(alloc, kind, &content),
         }
     }
-    Ok(())
 }
 
+// A submodule alone; the first commit of TREE, and a merge of three parents; a tag of the merge, and
+// a tag of that tag.
+const OBJECTS: &str = "\
+    name blob ->e69de29bb2d1d6434b8b29ae775ad8c2e48c5391
+    links blob hello|->
+    name blob hello|->ce013625030ba8dba906f756967f9e9ca394464a
+    links tree ->
+    name tree ->4b825dc642cb6eb9a060e54bf8d69288fbee4904
+    links tree 160000 lib\0\x11\x11\x11\x11\x11\x11\x11\x11\x11\x11\x11\x11\x11\x11\x11\
+        \x11\x11\x11\x11\x11->
+    name tree 160000 lib\0\x11\x11\x11\x11\x11\x11\x11\x11\x11\x11\x11\x11\x11\x11\x11\
+        \x11\x11\x11\x11\x11->572e85c9899d5fb69110eab1df80bed6b9991abe
+    links tree TREE->ce013625030ba8dba906f756967f9e9ca394464a \
+        ce013625030ba8dba906f756967f9e9ca394464a e69de29bb2d1d6434b8b29ae775ad8c2e48c5391 \
+        4b825dc642cb6eb9a060e54bf8d69288fbee4904
+    name tree TREE->d78d5b69f10f34b32ae8e548c57c40936c4f449b
+    name commit tree d78d5b69f10f34b32ae8e548c57c40936c4f449b|author A <a@example.com> \
+        1700000000 +0000|committer A <a@example.com> 1700000000 +0000||one|\
+        ->6d8ff996ebc72c235590a94fc7adda85f0b9b4f9
+    links commit tree d78d5b69f10f34b32ae8e548c57c40936c4f449b|author A <a@example.com> \
+        1700000000 +0000|committer A <a@example.com> 1700000000 +0000||one|\
+        ->d78d5b69f10f34b32ae8e548c57c40936c4f449b
+    name commit tree d78d5b69f10f34b32ae8e548c57c40936c4f449b|parent \
+        6d8ff996ebc72c235590a94fc7adda85f0b9b4f9|parent 6381db84981fbd5d1934e2519da6c1e9d257c59d|\
+        parent 291b8b5bf4a586d4c5e6f9c53f5d992e067bd8ef|author A <a@example.com> 1700000000 +0000|\
+        committer A <a@example.com> 1700000000 +0000||merge|\
+        ->2dd81a79b098ce2ea66b500d3666923c8d983eba
+    links commit tree d78d5b69f10f34b32ae8e548c57c40936c4f449b|parent \
+        6d8ff996ebc72c235590a94fc7adda85f0b9b4f9|parent 6381db84981fbd5d1934e2519da6c1e9d257c59d|\
+        parent 291b8b5bf4a586d4c5e6f9c53f5d992e067bd8ef|author A <a@example.com> 1700000000 +0000|\
+        committer A <a@example.com> 1700000000 +0000||merge|\
+        ->d78d5b69f10f34b32ae8e548c57c40936c4f449b 6d8ff996ebc72c235590a94fc7adda85f0b9b4f9 \
+        6381db84981fbd5d1934e2519da6c1e9d257c59d 291b8b5bf4a586d4c5e6f9c53f5d992e067bd8ef
+    name tag object 2dd81a79b098ce2ea66b500d3666923c8d983eba|type commit|tag v1|tagger A \
+        <a@example.com> 1700000000 +0000||first|->56c3f951c4aa1adf62c8a581290d34c972a3d0c1
+    links tag object 2dd81a79b098ce2ea66b500d3666923c8d983eba|type commit|tag v1|tagger A \
+        <a@example.com> 1700000000 +0000||first|->2dd81a79b098ce2ea66b500d3666923c8d983eba
+    name tag object 56c3f951c4aa1adf62c8a581290d34c972a3d0c1|type tag|tag v2|tagger A \
+        <a@example.com> 1700000000 +0000||again|->1408ed15d457a0f7c5737b9b96f8ae10db96f3e2
+    links tag object 56c3f951c4aa1adf62c8a581290d34c972a3d0c1|type tag|tag v2|tagger A \
+        <a@example.com> 1700000000 +0000||again|->56c3f951c4aa1adf62c8a581290d34c972a3d0c1";
+
 #[test]
-fn a_broken_object_is_refused_at_its_first_bad_byte(rt: HostRuntime) {
-    let table = [
-        // a name of 39 digits, a digit in upper case, and an end within the first line
-        (
-            Kind::Commit,
-            b"tree 111111111111111111111111111111111111111\n".as_slice(),
-            44,
-        ),
-        (
-            Kind::Commit,
-            b"tree 1111A1111111111111111111111111111111111\n",
-            9,
-        ),
-        (Kind::Commit, b"tree 1111", 9),
-        (Kind::Commit, b"", 0),
-        // a mode of seven digits, one that is no octal number, none, and an empty file name
-        (Kind::Tree, b"1006440 a\0", 6),
-        (Kind::Tree, b"100648 a\0", 5),
-        (Kind::Tree, b" a\0", 0),
-        (Kind::Tree, b"100644 \0", 7),
-        // a name that does not end, and 19 bytes of a name
-        (Kind::Tree, b"100644 a", 8),
-        (
-            Kind::Tree,
-            b"100644 a\0\x11\x11\x11\x11\x11\x11\x11\x11\x11\x11\x11\x11\x11\x11\x11\x11\
-            \x11\x11\x11",
-            28,
-        ),
-        // a kind that is none, and a kind without its line feed
-        (
-            Kind::Tag,
-            b"object 2222222222222222222222222222222222222222\ntype bulb\n",
-            54,
-        ),
-        (
-            Kind::Tag,
-            b"object 2222222222222222222222222222222222222222\ntype trees",
-            57,
-        ),
-    ];
-    for (kind, content, at) in table {
-        assert_eq!(rt; check(kind, content), Some(at));
-        match links(rt.alloc(), kind, content) {
-            Ok(_) => assert!(rt; false),
-            Err(fault) => assert_eq!(rt; fault, LinkFault::BadObject { at }),
-        }
-    }
+fn an_object_has_the_name_and_the_links_that_git_gives_it(rt: HostRuntime) -> Result<(), Fail> {
+    play(rt.alloc(), &mut Format, OBJECTS)
 }
+
+// In this order: a name of 39 digits, a digit in upper case, an end within the first line, and no
+// line; a mode of seven digits, one that is no octal number, none, and an empty file name; a name
+// that does not end, and 19 bytes of a name; a kind that is none, and a kind without its line feed.
+const BROKEN: &str = "\
+    links commit tree 111111111111111111111111111111111111111|->bad 44
+    links commit tree 1111A1111111111111111111111111111111111|->bad 9
+    links commit tree 1111->bad 9
+    links commit ->bad 0
+    links tree 1006440 a\0->bad 6
+    links tree 100648 a\0->bad 5
+    links tree  a\0->bad 0
+    links tree 100644 \0->bad 7
+    links tree 100644 a->bad 8
+    links tree 100644 a\0\x11\x11\x11\x11\x11\x11\x11\x11\x11\x11\x11\x11\x11\x11\x11\x11\
+        \x11\x11\x11->bad 28
+    links tag object 2222222222222222222222222222222222222222|type bulb|->bad 54
+    links tag object 2222222222222222222222222222222222222222|type trees->bad 57";
+
+#[test]
+fn a_broken_object_is_refused_at_its_first_bad_byte(rt: HostRuntime) -> Result<(), Fail> {
+    play(rt.alloc(), &mut Format, BROKEN)
+}
+
+// A broken line of a parent ends the parents. What names no object of that kind is a link too.
+const BEHIND: &str = "\
+    links commit tree 1111111111111111111111111111111111111111|\
+        parent 2222222222222222222222222222222222222222|parent 33|parent 4|\
+        ->1111111111111111111111111111111111111111 2222222222222222222222222222222222222222
+    links tag BYTES->2222222222222222222222222222222222222222";
 
 #[test]
 fn what_stands_behind_the_lines_is_not_checked(rt: HostRuntime) -> Result<(), Fail> {
-    let alloc = rt.alloc();
-    // A broken line of a parent ends the parents. What names no object of that kind is a link too.
-    let table = [
-        (
-            Kind::Commit,
-            b"tree 1111111111111111111111111111111111111111\n\
-            parent 2222222222222222222222222222222222222222\nparent 33\nparent 4\n"
-                .as_slice(),
-            b"1111111111111111111111111111111111111111 2222222222222222222222222222222222222222".as_slice(),
-        ),
-        (
-            Kind::Tag,
-            b"object 2222222222222222222222222222222222222222\ntype blob\n\xff\0",
-            b"2222222222222222222222222222222222222222",
-        ),
-    ];
-    for (kind, content, want) in table {
-        match links(alloc, kind, content) {
-            Ok(ids) => assert_eq!(rt; joined(alloc, ids.as_slice())?.as_slice(), want),
-            Err(_) => assert!(rt; false),
-        }
-    }
-    Ok(())
+    play(rt.alloc(), &mut Format, BEHIND)
 }

@@ -2,6 +2,8 @@
 #![tactic(auto)]
 
 #[cfg(test)]
+mod calls;
+#[cfg(test)]
 mod format;
 #[cfg(test)]
 mod prepared;
@@ -9,3 +11,5 @@ mod prepared;
 mod references;
 #[cfg(test)]
 mod store;
+#[cfg(test)]
+mod words;

@@ -1,211 +1,198 @@
 //! Lists of updates on the references of a repository.
 
-use px_base::{Hash, MAX_REFS, RefName, Update, Updates};
+use crate::calls::{Answers, play};
+use crate::words::{letter, object, update, updates};
+use px_base::{Hash, RefName, Updates};
 use refstore::{Prepared, RefRefusal, Refs};
-use std::alloc::Global;
+use std::alloc::{AllocError, Global};
 use std::test::Fail;
-
-// The empty blob, the empty tree, or the zero name.
-fn object(word: &str) -> Result<Hash, Fail> {
-    let text: &[u8] = match word {
-        "B" => b"e69de29bb2d1d6434b8b29ae775ad8c2e48c5391",
-        "T" => b"4b825dc642cb6eb9a060e54bf8d69288fbee4904",
-        _ => return Ok(Hash::zero()),
-    };
-    match Hash::read(text) {
-        Some(hash) => Ok(hash),
-        None => Err(Fail::new("no object name")),
-    }
-}
-
-fn letter(id: &Hash) -> &'static str {
-    match id.0 {
-        [0xe6, ..] => "B",
-        [0x4b, ..] => "T",
-        _ => "0",
-    }
-}
-
-// The updates of a text: a line each, of the old object, the new one and the name.
-fn updates(alloc: Global, text: &str) -> Result<Updates, Fail> {
-    let mut updates = Updates::new(alloc);
-    for line in text.lines() {
-        let mut words = line.split_whitespace();
-        let old = object(words.next().unwrap_or(""))?;
-        let new = object(words.next().unwrap_or(""))?;
-        let name = RefName::read(alloc, words.next().unwrap_or("").as_bytes())?;
-        updates.push(Update { old, new, name })?;
-    }
-    Ok(updates)
-}
 
 fn text(name: &RefName) -> &str {
     str::from_utf8(name.as_bytes()).unwrap_or("no text")
 }
 
 fn told(alloc: Global, refusal: &RefRefusal) -> Result<String, Fail> {
-    let told = match refusal {
-        RefRefusal::Empty => String::from_str(alloc, "empty")?,
-        RefRefusal::Void { name } => format!(in alloc; "void {}", text(name))?,
-        RefRefusal::Twice { name } => format!(in alloc; "twice {}", text(name))?,
-        RefRefusal::Stale { name, have } => {
-            format!(in alloc; "stale {} {}", text(name), letter(have))?
-        }
-        RefRefusal::Conflict { name, with } => {
-            format!(in alloc; "conflict {} {}", text(name), text(with))?
-        }
-        RefRefusal::TooManyRefs => String::from_str(alloc, "too many")?,
-        RefRefusal::Memory => String::from_str(alloc, "memory")?,
+    let (word, first, second) = match refusal {
+        RefRefusal::Empty => ("empty", "", ""),
+        RefRefusal::Void { name } => ("void", text(name), ""),
+        RefRefusal::Twice { name } => ("twice", text(name), ""),
+        RefRefusal::Stale { name, have } => ("stale", text(name), letter(have)),
+        RefRefusal::Conflict { name, with } => ("conflict", text(name), text(with)),
+        RefRefusal::TooManyRefs => ("too many", "", ""),
+        RefRefusal::Memory => ("memory", "", ""),
     };
-    Ok(told)
+    Ok(format!(in alloc; "{word} {first} {second}")?)
+}
+
+// Adds a reference to a text, as its object and its name.
+fn show(shown: &mut String, name: &RefName, id: &Hash) -> Result<(), AllocError> {
+    shown.push_str(letter(id))?;
+    shown.push_str(" ")?;
+    shown.push_str(text(name))?;
+    shown.push_str(" ")
+}
+
+// All references.
+fn shown(alloc: Global, refs: &Refs) -> Result<String, Fail> {
+    let list = refs.list(alloc)?;
+    let mut shown = String::new(alloc);
+    for (name, id) in list.as_slice() {
+        show(&mut shown, name, id)?;
+    }
+    Ok(shown)
 }
 
 // What preparing the updates comes to: a refusal, or the references afterwards.
-fn prepared(alloc: Global, refs: &Refs, lines: &str) -> Result<String, Fail> {
-    let list = updates(alloc, lines)?;
-    match Prepared::new(alloc, refs, list.as_slice()) {
+fn prepare(alloc: Global, refs: &Refs, list: &str) -> Result<String, Fail> {
+    match Prepared::new(alloc, refs, updates(alloc, list)?.as_slice()) {
         Ok(prepared) => shown(alloc, prepared.refs()),
         Err(refusal) => told(alloc, &refusal),
     }
 }
 
-fn shown(alloc: Global, refs: &Refs) -> Result<String, Fail> {
-    let list = refs.list(alloc)?;
-    let mut shown = String::new(alloc);
-    for (name, id) in list.as_slice() {
-        let one = format!(in alloc; "{} {} ", letter(id), text(name))?;
-        shown.push_str(one.as_str())?;
-    }
-    Ok(shown)
+// Prepares the updates, and does them: the references afterwards.
+fn commit(alloc: Global, refs: &mut Refs, list: &str) -> Result<String, Fail> {
+    Prepared::new(alloc, refs, updates(alloc, list)?.as_slice())?.commit(refs);
+    shown(alloc, refs)
 }
 
-fn begun(alloc: Global, lines: &str) -> Result<Refs, Fail> {
-    let mut refs = Refs::new(alloc);
-    let list = updates(alloc, lines)?;
-    let prepared = Prepared::new(alloc, &refs, list.as_slice())?;
-    prepared.commit(&mut refs);
-    Ok(refs)
+// Prepares the updates, and does none of them: the vote on them.
+fn abort(alloc: Global, refs: &Refs, list: &str) -> Result<String, Fail> {
+    let prepared = Prepared::new(alloc, refs, updates(alloc, list)?.as_slice())?;
+    let vote = prepared.vote();
+    prepared.abort();
+    Ok(String::from_str(alloc, str::from_utf8(&vote.text()).unwrap_or("?"))?)
 }
 
-#[test]
-fn a_list_is_refused_or_has_its_references(rt: HostRuntime) -> Result<(), Fail> {
-    let alloc = rt.alloc();
-    let refs = begun(alloc, "0 B refs/a\n0 T refs/a-b\n0 B refs/c/d")?;
-    let table = [
-        ("", "empty"),
-        ("0 0 refs/x", "void refs/x"),
-        ("0 B refs/x\n0 T refs/x", "twice refs/x"),
-        ("B T refs/x", "stale refs/x 0"),
-        ("0 T refs/a", "stale refs/a B"),
-        ("T B refs/a", "stale refs/a B"),
-        ("0 B refs/a/b", "conflict refs/a/b refs/a"),
-        ("0 B refs/c", "conflict refs/c refs/c/d"),
-        // The first update of the list that is in conflict, and the least name that it meets.
-        ("0 B refs/q/r\n0 B refs/q", "conflict refs/q/r refs/q"),
-        (
-            "0 B refs/e\n0 B refs/e/b\n0 B refs/e/a",
-            "conflict refs/e refs/e/a",
-        ),
-        ("0 B refs/a/b\n0 B refs/a/b/c", "conflict refs/a/b refs/a"),
-        // Each update is tested before the next one, and all before any conflict.
-        ("B T refs/x\n0 0 refs/y", "stale refs/x 0"),
-        ("0 B refs/a/b\n0 0 refs/y", "void refs/y"),
-        ("0 0 refs/a\n0 0 refs/a", "void refs/a"),
-        ("B B refs/a", "B refs/a T refs/a-b B refs/c/d "),
-        ("B T refs/a", "T refs/a T refs/a-b B refs/c/d "),
-        (
-            "B 0 refs/a\n0 T refs/a/b",
-            "T refs/a-b T refs/a/b B refs/c/d ",
-        ),
-        ("T 0 refs/a-b\n0 T refs/b", "B refs/a T refs/b B refs/c/d "),
-    ];
-    for (lines, want) in table {
-        let shown = prepared(alloc, &refs, lines)?;
-        assert_eq!(rt; shown.as_str(), want);
-    }
-    let stays = shown(alloc, &refs)?;
-    assert_eq!(rt; stays.as_str(), "B refs/a T refs/a-b B refs/c/d ");
-    Ok(())
-}
-
-// What creating a reference comes to: a refusal, or the references afterwards. The line has the object
-// and the name.
-fn created(alloc: Global, refs: &mut Refs, line: &str) -> Result<String, Fail> {
-    let mut words = line.split_whitespace();
-    let id = object(words.next().unwrap_or(""))?;
-    let name = RefName::read(alloc, words.next().unwrap_or("").as_bytes())?;
-    match refs.create(alloc, name, id) {
+// What creating a reference comes to: a refusal, or the references afterwards. The text has the
+// object and the name.
+fn create(alloc: Global, refs: &mut Refs, text: &str) -> Result<String, Fail> {
+    let (word, name) = text.split_once(" ").unwrap_or((text, ""));
+    match refs.create(alloc, RefName::read(alloc, name.as_bytes())?, object(word)) {
         Ok(()) => shown(alloc, refs),
         Err(refusal) => told(alloc, &refusal),
     }
 }
 
+// The object of a reference, and the number of all references.
+fn counted(alloc: Global, refs: &Refs, name: &str) -> Result<String, Fail> {
+    let word = match refs.get(&RefName::read(alloc, name.as_bytes())?) {
+        Some(id) => letter(&id),
+        None => "none",
+    };
+    Ok(format!(in alloc; "{word} of {}", refs.len())?)
+}
+
+// The creations of so many references.
+fn creations(alloc: Global, count: &str) -> Result<Updates, Fail> {
+    let count = count.parse::<usize>()?;
+    let mut list = Updates::new(alloc);
+    for number in 0..count {
+        let text = format!(in alloc; "0 B refs/{number:06}")?;
+        list.push(update(alloc, text.as_str())?)?;
+    }
+    Ok(list)
+}
+
+// What creating so many references comes to: a refusal, or their number.
+fn many(alloc: Global, refs: &Refs, count: &str) -> Result<String, Fail> {
+    match Prepared::new(alloc, refs, creations(alloc, count)?.as_slice()) {
+        Ok(prepared) => Ok(format!(in alloc; "{}", prepared.refs().len())?),
+        Err(refusal) => told(alloc, &refusal),
+    }
+}
+
+// A copy of references, by their list.
+fn copied(alloc: Global, refs: &Refs) -> Result<Refs, AllocError> {
+    let list = refs.list(alloc)?;
+    Refs::of_list(alloc, &list)
+}
+
+impl Answers for Refs {
+    fn answer(&mut self, alloc: Global, name: &str, rest: &str) -> Result<String, Fail> {
+        match name {
+            "prepare" => prepare(alloc, self, rest),
+            "commit" => commit(alloc, self, rest),
+            "abort" => abort(alloc, self, rest),
+            "create" => create(alloc, self, rest),
+            "get" => counted(alloc, self, rest),
+            "many" => many(alloc, self, rest),
+            _ => shown(alloc, &copied(alloc, self)?),
+        }
+    }
+}
+
+// Of several causes that of the first update is told, then the first update that is in conflict and
+// the least name that it meets. Each update is tested before the next one, and all before any
+// conflict. The last line shows that nothing was done.
+const LISTS: &str = "\
+    commit 0 B refs/a; 0 T refs/a-b; 0 B refs/c/d->B refs/a T refs/a-b B refs/c/d
+    prepare ->empty
+    prepare 0 0 refs/x->void refs/x
+    prepare 0 B refs/x; 0 T refs/x->twice refs/x
+    prepare B T refs/x->stale refs/x 0
+    prepare 0 T refs/a->stale refs/a B
+    prepare T B refs/a->stale refs/a B
+    prepare 0 B refs/a/b->conflict refs/a/b refs/a
+    prepare 0 B refs/c->conflict refs/c refs/c/d
+    prepare 0 B refs/q/r; 0 B refs/q->conflict refs/q/r refs/q
+    prepare 0 B refs/e; 0 B refs/e/b; 0 B refs/e/a->conflict refs/e refs/e/a
+    prepare 0 B refs/a/b; 0 B refs/a/b/c->conflict refs/a/b refs/a
+    prepare B T refs/x; 0 0 refs/y->stale refs/x 0
+    prepare 0 B refs/a/b; 0 0 refs/y->void refs/y
+    prepare 0 0 refs/a; 0 0 refs/a->void refs/a
+    prepare B B refs/a->B refs/a T refs/a-b B refs/c/d
+    prepare B T refs/a->T refs/a T refs/a-b B refs/c/d
+    prepare B 0 refs/a; 0 T refs/a/b->T refs/a-b T refs/a/b B refs/c/d
+    prepare T 0 refs/a-b; 0 T refs/b->B refs/a T refs/b B refs/c/d
+    list ->B refs/a T refs/a-b B refs/c/d";
+
+#[test]
+fn a_list_is_refused_or_has_its_references(rt: HostRuntime) -> Result<(), Fail> {
+    let alloc = rt.alloc();
+    play(alloc, &mut Refs::new(alloc), LISTS)
+}
+
+// The zero name is told before the name that is there, and that before a conflict.
+const CREATED: &str = "\
+    commit 0 B refs/a; 0 T refs/c/d->B refs/a T refs/c/d
+    create 0 refs/x->void refs/x
+    create 0 refs/a->void refs/a
+    create T refs/a->stale refs/a B
+    create T refs/a/b->conflict refs/a/b refs/a
+    create T refs/c->conflict refs/c refs/c/d
+    create T refs/b->B refs/a T refs/b T refs/c/d
+    create B refs/b->stale refs/b T
+    list ->B refs/a T refs/b T refs/c/d";
+
 #[test]
 fn a_reference_is_created_or_refused(rt: HostRuntime) -> Result<(), Fail> {
     let alloc = rt.alloc();
-    let mut refs = begun(alloc, "0 B refs/a\n0 T refs/c/d")?;
-    let table = [
-        ("0 refs/x", "void refs/x"),
-        // The zero name is told before the name that is there, and that before a conflict.
-        ("0 refs/a", "void refs/a"),
-        ("T refs/a", "stale refs/a B"),
-        ("T refs/a/b", "conflict refs/a/b refs/a"),
-        ("T refs/c", "conflict refs/c refs/c/d"),
-        ("T refs/b", "B refs/a T refs/b T refs/c/d "),
-        ("B refs/b", "stale refs/b T"),
-    ];
-    for (line, want) in table {
-        let shown = created(alloc, &mut refs, line)?;
-        assert_eq!(rt; shown.as_str(), want);
-    }
-    let stays = shown(alloc, &refs)?;
-    assert_eq!(rt; stays.as_str(), "B refs/a T refs/b T refs/c/d ");
-    Ok(())
+    play(alloc, &mut Refs::new(alloc), CREATED)
 }
+
+// The vote is by sha1sum. The last line has a copy of all references.
+const COMMITTED: &str = "\
+    commit 0 B refs/heads/a->B refs/heads/a
+    abort 0 B refs/heads/b; B T refs/heads/a->9888a85d1037c88a5a42f33b16989b488f3b5b8f
+    get refs/heads/b->none of 1
+    commit 0 B refs/heads/b; B T refs/heads/a->T refs/heads/a B refs/heads/b
+    get refs/heads/b->B of 2
+    list ->T refs/heads/a B refs/heads/b";
 
 #[test]
 fn what_was_prepared_is_committed_or_not(rt: HostRuntime) -> Result<(), Fail> {
     let alloc = rt.alloc();
-    let mut refs = begun(alloc, "0 B refs/heads/a")?;
-    let list = updates(alloc, "0 B refs/heads/b\nB T refs/heads/a")?;
-    let one = Prepared::new(alloc, &refs, list.as_slice())?;
-    // By sha1sum.
-    assert_eq!(rt;
-        one.vote().text().as_slice(),
-        b"9888a85d1037c88a5a42f33b16989b488f3b5b8f".as_slice()
-    );
-    one.abort();
-    let name = RefName::read(alloc, b"refs/heads/b")?;
-    assert!(rt; refs.get(&name).is_none());
-    Prepared::new(alloc, &refs, list.as_slice())?.commit(&mut refs);
-    assert_eq!(rt; refs.get(&name), Some(object("B")?));
-    assert_eq!(rt; refs.len(), 2);
-    let copied = Refs::of_list(alloc, &refs.list(alloc)?)?;
-    let shown = shown(alloc, &copied)?;
-    assert_eq!(rt; shown.as_str(), "T refs/heads/a B refs/heads/b ");
-    Ok(())
+    play(alloc, &mut Refs::new(alloc), COMMITTED)
 }
+
+// The references refs/000000 and so on are created at once.
+const MANY: &str = "\
+    many 32768->32768
+    many 32769->too many";
 
 #[test]
 fn a_repository_has_a_greatest_number_of_references(rt: HostRuntime) -> Result<(), Fail> {
     let alloc = rt.alloc();
-    let refs = Refs::new(alloc);
-    let mut list = Updates::new(alloc);
-    for number in 0..MAX_REFS {
-        let name = format!(in alloc; "refs/{number:06}")?;
-        list.push(Update {
-            old: Hash::zero(),
-            new: Hash([1; 20]),
-            name: RefName::read(alloc, name.as_bytes())?,
-        })?;
-    }
-    assert!(rt; Prepared::new(alloc, &refs, list.as_slice()).is_ok());
-    list.push(Update {
-        old: Hash::zero(),
-        new: Hash([1; 20]),
-        name: RefName::read(alloc, b"refs/one/more")?,
-    })?;
-    let refused = Prepared::new(alloc, &refs, list.as_slice());
-    assert!(rt; matches!(refused, Err(RefRefusal::TooManyRefs)));
-    Ok(())
+    play(alloc, &mut Refs::new(alloc), MANY)
 }

@@ -1,156 +1,169 @@
 //! Names of references and paths, and the text and the vote of a push.
 
-use px_base::{Hash, Lease, NameFault, RefName, RepoPath, Update};
+use crate::calls::{Answers, play};
+use crate::words::updates;
+use px_base::{Lease, NameFault, RefName, RepoPath};
 use refstore::{hook_text, vote_of};
 use std::alloc::Global;
 use std::test::Fail;
 
-// The zero name, the empty blob, and the empty tree.
-const ZERO: &[u8] = b"0000000000000000000000000000000000000000";
+// What reading comes to: whether all is as it should be, or the first bad place.
+fn told(alloc: Global, read: Result<bool, NameFault>) -> Result<String, Fail> {
+    let word = match read {
+        Ok(true) => "ok",
+        Ok(false) => "no",
+        Err(NameFault::BadName { at }) => return Ok(format!(in alloc; "{at}")?),
+        Err(NameFault::Memory) => "memory",
+    };
+    Ok(String::from_str(alloc, word)?)
+}
 
-const BLOB: &[u8] = b"e69de29bb2d1d6434b8b29ae775ad8c2e48c5391";
+// Whether the name and its copy keep the text.
+fn reference(alloc: Global, text: &[u8]) -> Result<bool, NameFault> {
+    let name = RefName::read(alloc, text)?;
+    match name.copy(alloc) {
+        Ok(copied) => Ok(copied == name && copied.as_bytes() == text),
+        Err(_) => Err(NameFault::Memory),
+    }
+}
 
-const TREE: &[u8] = b"4b825dc642cb6eb9a060e54bf8d69288fbee4904";
+fn path(alloc: Global, text: &[u8]) -> Result<bool, NameFault> {
+    let path = RepoPath::read(alloc, text)?;
+    Ok(path.as_bytes() == text)
+}
 
-#[test]
-fn a_reference_has_a_name_or_a_first_bad_place(rt: HostRuntime) {
-    let table = [
-        // Git says the same of these (`git check-ref-format`), but names no place.
-        (b"refs/heads/main".as_slice(), None),
-        (b"refs/a", None),
-        (b"refs/a./b", None),
-        (b"refs/@", None),
-        (b"refs/a@b", None),
-        (b"refs/a.lockb", None),
-        (b"refs/a..b", Some(7)),
-        (b"refs/a.lock/b", Some(11)),
-        (b"refs/a.lock", Some(11)),
-        (b"refs/.lock/a", Some(5)),
-        (b"refs/a.", Some(7)),
-        (b"refs/", Some(5)),
-        (b"refs/a/", Some(7)),
-        (b"refs//a", Some(5)),
-        (b"refs/.a", Some(5)),
-        (b"refs/a/@{", Some(8)),
-        (b"refs/a b", Some(6)),
-        (b"refs/a~1", Some(6)),
-        (b"refs/a\\b", Some(6)),
-        (b"refs/a\x7f", Some(6)),
-        (b"refs", Some(4)),
-        // Git takes these: a name outside refs/, and bytes above ASCII.
-        (b"heads/a", Some(0)),
-        (b"refs/\xc3\xa9", Some(5)),
-    ];
-    for (text, want) in table {
-        match RefName::read(rt.alloc(), text) {
-            Ok(name) => {
-                assert!(rt; want.is_none());
-                assert_eq!(rt; name.as_bytes(), text);
-            }
-            Err(NameFault::BadName { at }) => assert_eq!(rt; Some(at), want),
-            Err(NameFault::Memory) => assert!(rt; false),
+// The number of a lease, if there is one.
+fn lease(alloc: Global, text: &str) -> Result<String, Fail> {
+    match Lease::new(text.parse::<u64>()?) {
+        Some(lease) => Ok(format!(in alloc; "{}", lease.number())?),
+        None => Ok(String::from_str(alloc, "none")?),
+    }
+}
+
+// Whether the first name is above the second one.
+fn above(alloc: Global, text: &str) -> Result<bool, NameFault> {
+    let (first, second) = text.split_once(" ").unwrap_or((text, ""));
+    let first = RefName::read(alloc, first.as_bytes())?;
+    let second = RefName::read(alloc, second.as_bytes())?;
+    Ok(first > second)
+}
+
+fn vote(alloc: Global, text: &str) -> Result<String, Fail> {
+    let vote = vote_of(updates(alloc, text)?.as_slice());
+    Ok(String::from_str(alloc, str::from_utf8(&vote.text()).unwrap_or("?"))?)
+}
+
+// The code of names, leases and votes.
+#[derive(Clone, Copy)]
+struct Readers;
+
+impl Answers for Readers {
+    fn answer(&mut self, alloc: Global, name: &str, rest: &str) -> Result<String, Fail> {
+        match name {
+            "reference" => told(alloc, reference(alloc, rest.as_bytes())),
+            "path" => told(alloc, path(alloc, rest.as_bytes())),
+            "lease" => lease(alloc, rest),
+            "above" => told(alloc, above(alloc, rest)),
+            _ => vote(alloc, rest),
         }
     }
 }
 
-#[test]
-fn a_repository_has_a_path_or_a_first_bad_place(rt: HostRuntime) {
-    let table = [
-        (b"x.git".as_slice(), None),
-        (b"@hashed/a_b/c+d-1.git", None),
-        (b"a/.b", None),
-        (b"a/..b", None),
-        (b"", Some(0)),
-        (b"/a", Some(0)),
-        (b"./a", Some(0)),
-        (b"..", Some(0)),
-        (b"a//b", Some(2)),
-        (b"a/", Some(2)),
-        (b"a/../b", Some(2)),
-        (b"a b", Some(1)),
-        // A bad byte comes before a bad component.
-        (b"a/./b c", Some(5)),
-    ];
-    for (text, want) in table {
-        match RepoPath::read(rt.alloc(), text) {
-            Ok(path) => {
-                assert!(rt; want.is_none());
-                assert_eq!(rt; path.as_bytes(), text);
-            }
-            Err(NameFault::BadName { at }) => assert_eq!(rt; Some(at), want),
-            Err(NameFault::Memory) => assert!(rt; false),
-        }
-    }
-}
+// Git says the same of these (`git check-ref-format`), but names no place. It takes the last two: a
+// name outside refs/, and bytes above ASCII.
+const NAMES: &str = "\
+    reference refs/heads/main->ok
+    reference refs/a->ok
+    reference refs/a./b->ok
+    reference refs/@->ok
+    reference refs/a@b->ok
+    reference refs/a.lockb->ok
+    reference refs/a..b->7
+    reference refs/a.lock/b->11
+    reference refs/a.lock->11
+    reference refs/.lock/a->5
+    reference refs/a.->7
+    reference refs/->5
+    reference refs/a/->7
+    reference refs//a->5
+    reference refs/.a->5
+    reference refs/a/@{->8
+    reference refs/a b->6
+    reference refs/a~1->6
+    reference refs/a\\b->6
+    reference refs/a\x7f->6
+    reference refs->4
+    reference heads/a->0
+    reference refs/\u{e9}->5";
 
 #[test]
-fn a_lease_is_below_the_last_number(rt: HostRuntime) {
-    for (number, want) in [
-        (0, true),
-        (1, true),
-        (u64::MAX - 1, true),
-        (u64::MAX, false),
-    ] {
-        assert_eq!(rt;
-            Lease::new(number).is_some_and(|lease| lease.number() == number),
-            want
-        );
-    }
+fn a_reference_has_a_name_or_a_first_bad_place(rt: HostRuntime) -> Result<(), Fail> {
+    play(rt.alloc(), &mut Readers, NAMES)
 }
+
+// A name has at most 255 bytes.
+const LONG_NAMES: &str = "\
+    reference refs/aaaaaaaaaaaaaaaaaaaaaaaaaaaaaaaaaaaaaaaaaaaaaaaaaaaaaaaaaaaaaaaaaaaaaaaaaaaaa\
+        aaaaaaaaaaaaaaaaaaaaaaaaaaaaaaaaaaaaaaaaaaaaaaaaaaaaaaaaaaaaaaaaaaaaaaaaaaaaaaaaaaaaaaaa\
+        aaaaaaaaaaaaaaaaaaaaaaaaaaaaaaaaaaaaaaaaaaaaaaaaaaaaaaaaaaaaaaaaaaaaaaaaaaaaaaaaaaaaa->ok
+    reference refs/aaaaaaaaaaaaaaaaaaaaaaaaaaaaaaaaaaaaaaaaaaaaaaaaaaaaaaaaaaaaaaaaaaaaaaaaaaaaa\
+        aaaaaaaaaaaaaaaaaaaaaaaaaaaaaaaaaaaaaaaaaaaaaaaaaaaaaaaaaaaaaaaaaaaaaaaaaaaaaaaaaaaaaaaa\
+        aaaaaaaaaaaaaaaaaaaaaaaaaaaaaaaaaaaaaaaaaaaaaaaaaaaaaaaaaaaaaaaaaaaaaaaaaaaaaaaaaaaaaa->255
+    above refs/b refs/aaaaaaaaaaaaaaaaaaaaaaaaaaaaaaaaaaaaaaaaaaaaaaaaaaaaaaaaaaaaaaaaaaaaaaaaa\
+        aaaaaaaaaaaaaaaaaaaaaaaaaaaaaaaaaaaaaaaaaaaaaaaaaaaaaaaaaaaaaaaaaaaaaaaaaaaaaaaaaaaaaaa\
+        aaaaaaaaaaaaaaaaaaaaaaaaaaaaaaaaaaaaaaaaaaaaaaaaaaaaaaaaaaaaaaaaaaaaaaaaaaaaaaaaaaaaaaa\
+        aaa->ok";
 
 #[test]
 fn a_name_has_a_greatest_length(rt: HostRuntime) -> Result<(), Fail> {
-    let mut text = Vec::from_slice(rt.alloc(), b"refs/")?;
-    for _ in text.len()..255 {
-        text.push(b'a')?;
-    }
-    let name = RefName::read(rt.alloc(), &text)?;
-    let copied = name.copy(rt.alloc())?;
-    assert!(rt; copied == name);
-    assert!(rt; RefName::read(rt.alloc(), b"refs/b")? > name);
-    text.push(b'a')?;
-    let longer = RefName::read(rt.alloc(), &text);
-    assert!(rt; matches!(longer, Err(NameFault::BadName { at: 255 })));
-    Ok(())
+    play(rt.alloc(), &mut Readers, LONG_NAMES)
 }
 
-fn update(alloc: Global, old: &[u8], new: &[u8], name: &[u8]) -> Result<Update, Fail> {
-    match (Hash::read(old), Hash::read(new)) {
-        (Some(old), Some(new)) => {
-            let name = RefName::read(alloc, name)?;
-            Ok(Update { old, new, name })
-        }
-        _ => Err(Fail::new("no object name")),
-    }
-}
+// In the last path a bad byte comes before a bad component.
+const PATHS: &str = "\
+    path x.git->ok
+    path @hashed/a_b/c+d-1.git->ok
+    path a/.b->ok
+    path a/..b->ok
+    path ->0
+    path /a->0
+    path ./a->0
+    path ..->0
+    path a//b->2
+    path a/->2
+    path a/../b->2
+    path a b->1
+    path a/./b c->5";
 
 #[test]
-fn a_push_has_the_text_and_the_vote_that_sha1sum_gives(rt: HostRuntime) -> Result<(), Fail> {
-    let alloc = rt.alloc();
-    let made = update(alloc, ZERO, BLOB, b"refs/tags/empty")?;
-    let other = update(alloc, ZERO, BLOB, b"refs/heads/b")?;
-    let moved = update(alloc, BLOB, TREE, b"refs/heads/a")?;
-    let gone = update(alloc, BLOB, ZERO, b"refs/heads/main")?;
-    assert_eq!(rt;
-        vote_of(&[made]).text().as_slice(),
-        b"486a01e01b4248b74452b5a140fb221f9033e770".as_slice()
-    );
-    let pushed = [other, moved];
-    let text = hook_text(alloc, &pushed)?;
-    assert_eq!(rt;
-        text.as_slice(),
-        b"0000000000000000000000000000000000000000 e69de29bb2d1d6434b8b29ae775ad8c2e48c5391 \
-        refs/heads/b\ne69de29bb2d1d6434b8b29ae775ad8c2e48c5391 \
-        4b825dc642cb6eb9a060e54bf8d69288fbee4904 refs/heads/a\n"
-            .as_slice()
-    );
-    assert_eq!(rt;
-        vote_of(&pushed).text().as_slice(),
-        b"9888a85d1037c88a5a42f33b16989b488f3b5b8f".as_slice()
-    );
-    assert_eq!(rt;
-        vote_of(&[gone]).text().as_slice(),
-        b"b4572333b6138484822f55bd86e631fe3caae694".as_slice()
-    );
+fn a_repository_has_a_path_or_a_first_bad_place(rt: HostRuntime) -> Result<(), Fail> {
+    play(rt.alloc(), &mut Readers, PATHS)
+}
+
+// The last number is 2^64 - 1. The votes are by sha1sum.
+const LEASES_AND_VOTES: &str = "\
+    lease 0->0
+    lease 1->1
+    lease 18446744073709551614->18446744073709551614
+    lease 18446744073709551615->none
+    vote 0 B refs/tags/empty->486a01e01b4248b74452b5a140fb221f9033e770
+    vote 0 B refs/heads/b; B T refs/heads/a->9888a85d1037c88a5a42f33b16989b488f3b5b8f
+    vote B 0 refs/heads/main->b4572333b6138484822f55bd86e631fe3caae694";
+
+#[test]
+fn a_lease_is_below_the_last_number_and_a_push_has_its_vote(rt: HostRuntime) -> Result<(), Fail> {
+    play(rt.alloc(), &mut Readers, LEASES_AND_VOTES)
+}
+
+const HOOK_TEXT: &[u8] =
+    b"0000000000000000000000000000000000000000 e69de29bb2d1d6434b8b29ae775ad8c2e48c5391 \
+    refs/heads/b\ne69de29bb2d1d6434b8b29ae775ad8c2e48c5391 \
+    4b825dc642cb6eb9a060e54bf8d69288fbee4904 refs/heads/a\n";
+
+#[test]
+fn a_push_has_the_text_that_git_gives_its_hook(rt: HostRuntime) -> Result<(), Fail> {
+    let pushed = updates(rt.alloc(), "0 B refs/heads/b; B T refs/heads/a")?;
+    let text = hook_text(rt.alloc(), pushed.as_slice())?;
+    assert!(rt; text.as_slice() == HOOK_TEXT);
     Ok(())
 }

@@ -1,89 +1,137 @@
 //! Stores, and what is reachable in them. Names are those that `git hash-object` prints.
 
+use crate::calls::{Answers, play};
+use crate::words::{content, kind, letter, object};
 use objstore::{ClosedFault, Put, PutFault, Store, name_of};
 use px_base::{Bytes, Hash, Kind, Object, ObjectId};
 use std::alloc::Global;
 use std::test::Fail;
 
-// The empty blob.
-const BLOB: &[u8] = b"e69de29bb2d1d6434b8b29ae775ad8c2e48c5391";
+// The content of the commit COMMIT.
+const COMMIT: &str = "tree 4b825dc642cb6eb9a060e54bf8d69288fbee4904|\
+    parent e69de29bb2d1d6434b8b29ae775ad8c2e48c5391|";
 
-// The empty tree.
-const TREE: &[u8] = b"4b825dc642cb6eb9a060e54bf8d69288fbee4904";
+fn text_of(word: &str) -> &str {
+    if word == "COMMIT" { COMMIT } else { word }
+}
 
-fn id(text: &[u8]) -> Result<ObjectId, Fail> {
-    match Hash::read(text) {
-        Some(id) => Ok(id),
-        None => Err(Fail::new("no id")),
+// An object by a word: the commit COMMIT, one that nobody made, or one of those with a letter.
+fn id(alloc: Global, word: &str) -> Result<ObjectId, Fail> {
+    match word {
+        "COMMIT" => Ok(name_of(Kind::Commit, &content(alloc, COMMIT)?)),
+        "other" => Ok(Hash([1; 20])),
+        _ => Ok(object(word)),
     }
 }
 
-// Puts the object, and answers what that came to.
-fn put(
-    alloc: Global,
-    store: &mut Store,
-    kind: Kind,
-    content: &[u8],
-) -> Result<Result<Put, PutFault>, Fail> {
-    match Object::new(kind, Bytes::from_slice(alloc, content)?) {
-        Some(object) => Ok(store.put(alloc, &object)),
+// Puts an object of a kind and a content, and answers what that came to.
+fn put(alloc: Global, store: &mut Store, text: &str) -> Result<String, Fail> {
+    let (word, text) = text.split_once(" ").unwrap_or((text, ""));
+    let content = content(alloc, text_of(text))?;
+    match Object::new(kind(word), Bytes::from_slice(alloc, &content)?) {
+        Some(object) => told(alloc, store.put(alloc, &object)),
         None => Err(Fail::new("too large")),
     }
 }
 
+fn told(alloc: Global, put: Result<Put, PutFault>) -> Result<String, Fail> {
+    let word = match put {
+        Ok(Put::Added) => "added",
+        Ok(Put::Present) => "present",
+        Err(PutFault::BadObject { at }) => return Ok(format!(in alloc; "bad {at}")?),
+        Err(PutFault::Collision { .. }) => "collision",
+        Err(PutFault::Memory) => "memory",
+    };
+    Ok(String::from_str(alloc, word)?)
+}
+
+// An object that a store has, by its kind and its size.
+fn shown(alloc: Global, object: Option<&Object>) -> Result<String, Fail> {
+    match object {
+        Some(object) => { Ok(format!(in alloc; "{:?} {}", object.kind(), object.content().len())?) }
+        None => Ok(String::from_str(alloc, "none")?),
+    }
+}
+
+fn ids(alloc: Global, words: &str) -> Result<Vec<ObjectId>, Fail> {
+    let mut ids = Vec::new(alloc);
+    for word in words.split_whitespace() {
+        ids.push(id(alloc, word)?)?;
+    }
+    Ok(ids)
+}
+
+// Whether all that the words lead to is there, or what is missing.
+fn closed(alloc: Global, stores: &Stores, words: &str) -> Result<String, Fail> {
+    let tips = ids(alloc, words)?;
+    let (word, id) = match stores.store.closed(alloc, &tips, &stores.extra) {
+        Ok(()) => ("ok", ""),
+        Err(ClosedFault::Missing(id)) => ("missing", letter(&id)),
+        Err(ClosedFault::Memory) => ("memory", ""),
+    };
+    Ok(format!(in alloc; "{word} {id}")?)
+}
+
+// A store, and the extra one.
+#[derive(Drop)]
+struct Stores {
+    store: Store,
+    extra: Store,
+}
+
+impl Answers for Stores {
+    fn answer(&mut self, alloc: Global, name: &str, rest: &str) -> Result<String, Fail> {
+        match name {
+            "put" => put(alloc, &mut self.store, rest),
+            "extra" => put(alloc, &mut self.extra, rest),
+            "get" => shown(alloc, self.store.get(&id(alloc, rest)?)),
+            _ => closed(alloc, self, rest),
+        }
+    }
+}
+
+// Makes the calls of a table to two empty stores.
+fn play_in_stores(alloc: Global, table: &str) -> Result<(), Fail> {
+    let mut stores = Stores {
+        store: Store::new(alloc),
+        extra: Store::new(alloc),
+    };
+    play(alloc, &mut stores, table)
+}
+
+const PUT: &str = "\
+    put blob ->added
+    put blob ->present
+    put tree ->added
+    put commit trees->bad 4
+    get T->Tree 0
+    get other->none";
+
 #[test]
 fn an_object_is_put_once(rt: HostRuntime) -> Result<(), Fail> {
-    let alloc = rt.alloc();
-    let mut store = Store::new(alloc);
-    let table = [
-        (Kind::Blob, b"".as_slice(), Ok(Put::Added)),
-        (Kind::Blob, b"", Ok(Put::Present)),
-        (Kind::Tree, b"", Ok(Put::Added)),
-        (Kind::Commit, b"trees", Err(PutFault::BadObject { at: 4 })),
-    ];
-    for (kind, content, want) in table {
-        assert_eq!(rt; put(alloc, &mut store, kind, content)?, want);
-    }
-    match store.get(&id(TREE)?) {
-        Some(object) => {
-            assert_eq!(rt; object.kind(), Kind::Tree);
-            assert_eq!(rt; object.content().len(), 0);
-        }
-        None => assert!(rt; false),
-    }
-    assert!(rt; store.get(&Hash([1; 20])).is_none());
-    Ok(())
+    play_in_stores(rt.alloc(), PUT)
 }
+
+const CLOSED: &str = "\
+    extra blob ->added
+    closed ->ok
+    closed B->ok
+    closed B T->missing T";
 
 #[test]
 fn an_extra_store_has_what_is_missing(rt: HostRuntime) -> Result<(), Fail> {
-    let alloc = rt.alloc();
-    let store = Store::new(alloc);
-    let mut extra = Store::new(alloc);
-    let _ = put(alloc, &mut extra, Kind::Blob, b"")?;
-    let (blob, tree) = (id(BLOB)?, id(TREE)?);
-    assert_eq!(rt; store.closed(alloc, &[], &extra), Ok(()));
-    assert_eq!(rt; store.closed(alloc, &[blob], &extra), Ok(()));
-    let missing = Err(ClosedFault::Missing(tree));
-    assert_eq!(rt; store.closed(alloc, &[blob, tree], &extra), missing);
-    Ok(())
+    play_in_stores(rt.alloc(), CLOSED)
 }
+
+const FOLLOWED: &str = "\
+    put commit COMMIT->added
+    closed COMMIT->missing T
+    extra tree ->added
+    closed COMMIT->missing B
+    extra blob ->added
+    closed COMMIT->ok";
 
 #[test]
 fn links_are_followed_in_order(rt: HostRuntime) -> Result<(), Fail> {
-    let alloc = rt.alloc();
-    let mut store = Store::new(alloc);
-    let mut extra = Store::new(alloc);
-    let content =
-        b"tree 4b825dc642cb6eb9a060e54bf8d69288fbee4904\nparent e69de29bb2d1d6434b8b29ae775ad8c2e48c5391\n";
-    let _ = put(alloc, &mut store, Kind::Commit, content)?;
-    let tips = [name_of(Kind::Commit, content)];
-    let missing = Err(ClosedFault::Missing(id(TREE)?));
-    assert_eq!(rt; store.closed(alloc, &tips, &extra), missing);
-    let _ = put(alloc, &mut extra, Kind::Tree, b"")?;
-    let missing = Err(ClosedFault::Missing(id(BLOB)?));
-    assert_eq!(rt; store.closed(alloc, &tips, &extra), missing);
-    let _ = put(alloc, &mut extra, Kind::Blob, b"")?;
-    assert_eq!(rt; store.closed(alloc, &tips, &extra), Ok(()));
-    Ok(())
+    play_in_stores(rt.alloc(), FOLLOWED)
 }

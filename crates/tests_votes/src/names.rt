@@ -1,27 +1,22 @@
 //! Names, hashes and lists.
 
+use crate::calls::{Answers, play};
 use px_base::{Bytes, Hash, Items, NameFault, StorageName, Words};
+use std::alloc::{AllocError, Global};
 use std::test::Fail;
 
-#[test]
-fn a_storage_name_is_refused_at_its_first_bad_byte(rt: HostRuntime) {
-    let long = [b'n'; 65];
-    let table = [
-        (b"gitaly-1.example_A".as_slice(), None),
-        (&long[..64], None),
-        (&long, Some(64)),
-        (b"", Some(0)),
-        (b"a/b", Some(1)),
-        (b"ab\xc3\xa9", Some(2)),
-        (b" a", Some(0)),
-    ];
-    for (text, bad) in table {
-        match (StorageName::read(text), bad) {
-            (Ok(name), None) => assert_eq!(rt; name.as_bytes(), text),
-            (Err(fault), Some(at)) => assert_eq!(rt; fault, NameFault::BadName { at }),
-            _ => assert!(rt; false),
-        }
-    }
+// What reading a storage name comes to: whether the text is kept, or the first bad byte.
+fn name(alloc: Global, text: &[u8]) -> Result<String, Fail> {
+    let word = match StorageName::read(text) {
+        Ok(name) => if name.as_bytes() == text {
+            "ok"
+        } else {
+            "another text"
+        },
+        Err(NameFault::BadName { at }) => return Ok(format!(in alloc; "{at}")?),
+        Err(NameFault::Memory) => "memory",
+    };
+    Ok(String::from_str(alloc, word)?)
 }
 
 // The SHA-1 of `abc`, from FIPS 180-4's examples.
@@ -30,38 +25,88 @@ const ABC: Hash = Hash([
     0x9c, 0xd0, 0xd8, 0x9d,
 ]);
 
-#[test]
-fn a_hash_has_one_text(rt: HostRuntime) {
-    let text = b"a9993e364706816aba3e25717850c26c9cd0d89d";
-    assert_eq!(rt; Hash::read(text), Some(ABC));
-    assert_eq!(rt; ABC.text().as_slice(), text.as_slice());
-    let table = [
-        b"A9993E364706816ABA3E25717850C26C9CD0D89D".as_slice(),
-        b"a9993e364706816aba3e25717850c26c9cd0d89",
-        b"a9993e364706816aba3e25717850c26c9cd0d89d0",
-        b"g9993e364706816aba3e25717850c26c9cd0d89d",
-        b"",
-    ];
-    for other in table {
-        assert_eq!(rt; Hash::read(other), None);
+// Whether a text is that of ABC, and the text that this has.
+fn hash(alloc: Global, text: &[u8]) -> Result<String, Fail> {
+    let text = match Hash::read(text) {
+        Some(hash) if hash == ABC => hash.text(),
+        _ => return Ok(String::from_str(alloc, "no")?),
+    };
+    Ok(String::from_str(alloc, str::from_utf8(&text).unwrap_or("?"))?)
+}
+
+// The code of names and hashes.
+#[derive(Clone, Copy)]
+struct Readers;
+
+impl Answers for Readers {
+    fn answer(&mut self, alloc: Global, call: &str, rest: &str) -> Result<String, Fail> {
+        match call {
+            "name" => name(alloc, rest.as_bytes()),
+            _ => hash(alloc, rest.as_bytes()),
+        }
     }
 }
 
+// The second and the third name have 64 and 65 bytes.
+const NAMES: &str = "\
+    name gitaly-1.example_A->ok
+    name nnnnnnnnnnnnnnnnnnnnnnnnnnnnnnnnnnnnnnnnnnnnnnnnnnnnnnnnnnnnnnnn->ok
+    name nnnnnnnnnnnnnnnnnnnnnnnnnnnnnnnnnnnnnnnnnnnnnnnnnnnnnnnnnnnnnnnnn->64
+    name ->0
+    name a/b->1
+    name ab\u{e9}->2
+    name  a->0";
+
 #[test]
-fn lists_grow_at_their_end(rt: HostRuntime) -> Result<(), Fail> {
-    let alloc = rt.alloc();
+fn a_storage_name_is_refused_at_its_first_bad_byte(rt: HostRuntime) -> Result<(), Fail> {
+    play(rt.alloc(), &mut Readers, NAMES)
+}
+
+const HASHES: &str = "\
+    hash a9993e364706816aba3e25717850c26c9cd0d89d->a9993e364706816aba3e25717850c26c9cd0d89d
+    hash A9993E364706816ABA3E25717850C26C9CD0D89D->no
+    hash a9993e364706816aba3e25717850c26c9cd0d89->no
+    hash a9993e364706816aba3e25717850c26c9cd0d89d0->no
+    hash g9993e364706816aba3e25717850c26c9cd0d89d->no
+    hash ->no";
+
+#[test]
+fn a_hash_has_one_text(rt: HostRuntime) -> Result<(), Fail> {
+    play(rt.alloc(), &mut Readers, HASHES)
+}
+
+// A list that grew by a byte and by two.
+fn grown(alloc: Global) -> Result<Bytes, AllocError> {
     let mut bytes = Bytes::from_slice(alloc, b"ab")?;
     bytes.push(b'c')?;
     bytes.extend_from_slice(b"de")?;
-    assert_eq!(rt; bytes.as_slice(), b"abcde".as_slice());
-    assert_eq!(rt; bytes.len(), 5);
-    assert!(rt; Items::<u32>::new(alloc).is_empty());
-    let mut words = Words::new(alloc);
-    assert!(rt; words.is_empty());
-    words.push(alloc, "rehearse")?;
-    assert!(rt; words.is_only("rehearse"));
-    words.push(alloc, "rehearse")?;
-    assert!(rt; !words.is_only("rehearse"));
-    assert_eq!(rt; words.len(), 2);
+    Ok(bytes)
+}
+
+#[test]
+fn bytes_are_added_at_the_end(rt: HostRuntime) -> Result<(), Fail> {
+    let bytes = grown(rt.alloc())?;
+    assert!(rt; bytes.as_slice() == b"abcde".as_slice() && bytes.len() == 5);
+    assert!(rt; Items::<u32>::new(rt.alloc()).is_empty());
     Ok(())
+}
+
+impl Answers for Words {
+    fn answer(&mut self, alloc: Global, name: &str, rest: &str) -> Result<String, Fail> {
+        if name == "push" {
+            self.push(alloc, rest)?;
+        }
+        let (none, only) = (self.is_empty(), self.is_only("rehearse"));
+        Ok(format!(in alloc; "{} none={none} only={only}", self.len())?)
+    }
+}
+
+const WORDS: &str = "\
+    count ->0 none=true only=false
+    push rehearse->1 none=false only=true
+    push rehearse->2 none=false only=false";
+
+#[test]
+fn words_are_counted_and_compared(rt: HostRuntime) -> Result<(), Fail> {
+    play(rt.alloc(), &mut Words::new(rt.alloc()), WORDS)
 }

@@ -1,66 +1,156 @@
 //! Lines, and the streams that they come from and go to.
 
+use crate::calls::{Answers, play};
 use px_base::{
-    LineEnd, MemSink, MemSource, Piece, ReadEnd, Sink, Source, StdSink, StdSource, WriteEnd,
-    WrittenEnd, line, read_piece, write_all,
+    LineEnd, MemSink, MemSource, Piece, ReadEnd, Sink, Source, StdSink, StdSource, line,
+    read_piece, write_all,
 };
+use std::alloc::Global;
 use std::test::Fail;
+
+// What came, and the bytes of it.
+fn shown(alloc: Global, word: &str, bytes: &[u8]) -> Result<String, Fail> {
+    let text = str::from_utf8(bytes).unwrap_or("?");
+    Ok(format!(in alloc; "{word} {text}")?)
+}
+
+fn next_line(alloc: Global, source: &mut MemSource) -> Result<String, Fail> {
+    match line(alloc, source, 2) {
+        LineEnd::Line(bytes) => shown(alloc, "line", bytes.as_slice()),
+        LineEnd::End => shown(alloc, "end", b""),
+        LineEnd::TooLong => shown(alloc, "too long", b""),
+        _ => shown(alloc, "fault", b""),
+    }
+}
+
+fn next_piece(alloc: Global, source: &mut MemSource) -> Result<String, Fail> {
+    match read_piece(alloc, source, 2) {
+        Piece::Line(bytes) => shown(alloc, "line", bytes.as_slice()),
+        Piece::Last(bytes) => shown(alloc, "last", bytes.as_slice()),
+        _ => shown(alloc, "another", b""),
+    }
+}
+
+// A read of two bytes: what it came to, the faults so far, and the bytes.
+fn read<S: Source>(alloc: Global, source: &mut S) -> Result<String, Fail> {
+    let mut room = [0; 2];
+    let end = source.read(&mut room);
+    let bytes: &[u8] = match end {
+        ReadEnd::Took(count) => room.get(..count).unwrap_or(b""),
+        _ => b"",
+    };
+    let text = str::from_utf8(bytes).unwrap_or("?");
+    Ok(format!(in alloc; "{end:?} {} {text}", source.read_faults())?)
+}
+
+impl Answers for MemSource {
+    fn answer(&mut self, alloc: Global, name: &str, _: &str) -> Result<String, Fail> {
+        match name {
+            "line" => next_line(alloc, self),
+            "piece" => next_piece(alloc, self),
+            _ => read(alloc, self),
+        }
+    }
+}
+
+// Makes the calls of a table to a source of these bytes, of which this call fails.
+fn play_in(alloc: Global, bytes: &[u8], failing: u64, table: &str) -> Result<(), Fail> {
+    let bytes = Vec::from_slice(alloc, bytes)?;
+    let failing = Vec::from_slice(alloc, &[failing])?;
+    play(alloc, &mut MemSource::new(bytes, failing), table)
+}
+
+// Three bytes are one too many, and are spent.
+const LINES: &str = "\
+    line ->line ab
+    line ->line
+    line ->too long
+    piece ->line
+    piece ->last d
+    line ->end";
 
 #[test]
 fn lines_end_with_a_line_feed_or_with_the_input(rt: HostRuntime) -> Result<(), Fail> {
-    let alloc = rt.alloc();
-    let mut source = MemSource::new(Vec::from_slice(alloc, b"ab\n\nabc\nd")?, Vec::new(alloc));
-    for want in [b"ab".as_slice(), b""] {
-        match line(alloc, &mut source, 2) {
-            LineEnd::Line(bytes) => assert_eq!(rt; bytes.as_slice(), want),
-            _ => assert!(rt; false),
+    play_in(rt.alloc(), b"ab\n\nabc\nd", 0, LINES)
+}
+
+const READS: &str = "\
+    read ->Took(2) 0 ab
+    read ->Failed 1
+    read ->Took(1) 1 c
+    read ->End 1";
+
+#[test]
+fn the_listed_read_fails(rt: HostRuntime) -> Result<(), Fail> {
+    play_in(rt.alloc(), b"abc", 2, READS)
+}
+
+// What a write of some bytes came to, and the faults so far.
+fn write<K: Sink>(alloc: Global, sink: &mut K, bytes: &[u8]) -> Result<String, Fail> {
+    if bytes.is_empty() {
+        return Err(Fail::new("nothing to write"));
+    }
+    let end = sink.write(bytes);
+    Ok(format!(in alloc; "{end:?} {}", sink.write_faults())?)
+}
+
+// What writing a whole text came to, and the faults so far.
+fn write_text(alloc: Global, sink: &mut MemSink, text: &[u8]) -> Result<String, Fail> {
+    let end = write_all(sink, text);
+    Ok(format!(in alloc; "{end:?} {}", sink.write_faults())?)
+}
+
+impl Answers for MemSink {
+    fn answer(&mut self, alloc: Global, name: &str, rest: &str) -> Result<String, Fail> {
+        match name {
+            "all" => write_text(alloc, self, rest.as_bytes()),
+            "write" => write(alloc, self, rest.as_bytes()),
+            _ => shown(alloc, "has", self.bytes()),
         }
     }
-    // Three bytes are one too many, and are spent.
-    assert!(rt; matches!(line(alloc, &mut source, 2), LineEnd::TooLong));
-    assert!(rt; matches!(read_piece(alloc, &mut source, 2), Piece::Line(_)));
-    match read_piece(alloc, &mut source, 2) {
-        Piece::Last(bytes) => assert_eq!(rt; bytes.as_slice(), b"d".as_slice()),
-        _ => assert!(rt; false),
+}
+
+const WRITES: &str = "\
+    all ab->All 0
+    all cd->Failed 1
+    write ef->Took(2) 1
+    bytes ->has abef";
+
+#[test]
+fn the_listed_write_fails(rt: HostRuntime) -> Result<(), Fail> {
+    let failing = Vec::from_slice(rt.alloc(), &[2])?;
+    play(rt.alloc(), &mut MemSink::new(rt.alloc(), failing), WRITES)
+}
+
+impl Answers for StdSource<&[u8]> {
+    fn answer(&mut self, alloc: Global, _: &str, _: &str) -> Result<String, Fail> {
+        read(alloc, self)
     }
-    assert!(rt; matches!(line(alloc, &mut source, 2), LineEnd::End));
-    Ok(())
+}
+
+const STD_READS: &str = "\
+    read ->Took(2) 0 ab
+    read ->Took(1) 0 c
+    read ->End 0";
+
+#[test]
+fn a_std_reader_is_a_source(rt: HostRuntime) -> Result<(), Fail> {
+    let mut source = StdSource::new(rt.alloc(), b"abc".as_slice())?;
+    play(rt.alloc(), &mut source, STD_READS)
+}
+
+impl Answers for StdSink<Vec<u8>> {
+    fn answer(&mut self, alloc: Global, _: &str, rest: &str) -> Result<String, Fail> {
+        write(alloc, self, rest.as_bytes())
+    }
 }
 
 #[test]
-fn the_listed_calls_fail(rt: HostRuntime) -> Result<(), Fail> {
+fn a_std_writer_is_a_sink(rt: HostRuntime) -> Result<(), Fail> {
     let alloc = rt.alloc();
-    let mut source = MemSource::new(
-        Vec::from_slice(alloc, b"abc")?,
-        Vec::from_slice(alloc, &[2])?,
-    );
-    let mut room = [0; 2];
-    assert_eq!(rt; source.read(&mut room), ReadEnd::Took(2));
-    assert_eq!(rt; source.read(&mut room), ReadEnd::Failed);
-    assert_eq!(rt; source.read_faults(), 1);
-    assert_eq!(rt; source.read(&mut room), ReadEnd::Took(1));
-    assert_eq!(rt; source.read(&mut room), ReadEnd::End);
-    let mut sink = MemSink::new(alloc, Vec::from_slice(alloc, &[2])?);
-    assert_eq!(rt; write_all(&mut sink, b"ab"), WrittenEnd::All);
-    assert_eq!(rt; write_all(&mut sink, b"cd"), WrittenEnd::Failed);
-    assert_eq!(rt; sink.write_faults(), 1);
-    assert_eq!(rt; sink.write(b"ef"), WriteEnd::Took(2));
-    assert_eq!(rt; sink.bytes(), b"abef".as_slice());
-    Ok(())
-}
-
-#[test]
-fn std_streams_are_sources_and_sinks(rt: HostRuntime) -> Result<(), Fail> {
-    let alloc = rt.alloc();
-    let mut source = StdSource::new(alloc, b"abc".as_slice())?;
-    let mut room = [0; 2];
-    assert_eq!(rt; source.read(&mut room), ReadEnd::Took(2));
-    assert_eq!(rt; room, *b"ab");
-    assert_eq!(rt; source.read(&mut room), ReadEnd::Took(1));
-    assert_eq!(rt; source.read(&mut room), ReadEnd::End);
-    assert_eq!(rt; source.read_faults(), 0);
-    let mut sink = StdSink::new(Vec::new(alloc));
-    assert_eq!(rt; sink.write(b"abc"), WriteEnd::Took(3));
-    assert_eq!(rt; sink.write_faults(), 0);
-    Ok(())
+    play(
+        alloc,
+        &mut StdSink::new(Vec::new(alloc)),
+        "write abc->Took(3) 0",
+    )
 }

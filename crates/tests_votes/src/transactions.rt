@@ -1,45 +1,83 @@
 //! Transactions of several votes, and their manager.
 
-use px_base::{Hash, Phase, StorageName, TxId};
+use crate::calls::{Answers, play, told};
+use crate::votes::{hash, panel};
+use px_base::{Phase, StorageName, TxId};
+use std::alloc::Global;
 use std::test::Fail;
-use txmanager::{Manager, RegisterRefusal, TxRefusal, are_lawful_rounds};
-use voters::{Outcome, Panel, Voter, VoterResult};
+use txmanager::{Manager, are_lawful_rounds};
 
-const RED: Hash = Hash([1; 20]);
+// All calls are on this transaction.
+const TX: TxId = TxId(7);
+
+// A vote for red of a voter in a phase.
+fn cast(alloc: Global, manager: &mut Manager, text: &str) -> Result<String, Fail> {
+    let (name, word) = text.split_once(" ").unwrap_or((text, ""));
+    let phase = if word == "prepared" {
+        Phase::Prepared
+    } else {
+        Phase::Committed
+    };
+    let name = StorageName::read(name.as_bytes())?;
+    told(alloc, manager.cast(TX, &name, phase, &hash("red")))
+}
+
+// The result of a voter in a vote.
+fn collect(alloc: Global, manager: &Manager, text: &str) -> Result<String, Fail> {
+    let (name, sub) = text.split_once(" ").unwrap_or((text, ""));
+    let name = StorageName::read(name.as_bytes())?;
+    told(alloc, manager.collect(TX, &name, sub.parse::<u32>()?))
+}
+
+// Registers two voters, of whom both have to vote for the same, where nothing is registered.
+fn register(alloc: Global, manager: &mut Manager, rounds: &str) -> Result<String, Fail> {
+    let panel = panel(alloc, b"ab", 1, 2)?;
+    let mut fresh = Manager::new(alloc);
+    let answer = fresh.register(alloc, TX, &panel, rounds.parse::<u32>()?);
+    *manager = fresh;
+    told(alloc, answer)
+}
+
+impl Answers for Manager {
+    fn answer(&mut self, alloc: Global, name: &str, rest: &str) -> Result<String, Fail> {
+        match name {
+            "register" => register(alloc, self, rest),
+            "lawful" => told(alloc, are_lawful_rounds(rest.parse::<u32>()?)),
+            "cast" => cast(alloc, self, rest),
+            "collect" => collect(alloc, self, rest),
+            "outcome" => told(alloc, self.outcome(TX, rest.parse::<u32>()?)),
+            "withdraw" => {
+                told(
+                    alloc,
+                    self.cancel_voter(TX, &StorageName::read(rest.as_bytes())?),
+                )
+            }
+            "stop" => told(alloc, self.stop(TX)),
+            "cancel" => told(alloc, self.cancel(TX)),
+            _ => told(alloc, self.close(TX)),
+        }
+    }
+}
+
+const CALLS: &str = "\
+    register 9->Err(BadRounds { n: 9 })
+    lawful 8->true
+    register 1->Ok(())
+    cast a prepared->Ok((1, Open))
+    cast b prepared->Ok((1, Committed(Verdict { hash: \
+        Hash([1, 1, 1, 1, 1, 1, 1, 1, 1, 1, 1, 1, 1, 1, 1, 1, 1, 1, 1, 1]), \
+        reached: 2, threshold: 2, total: 2 })))
+    outcome 1->Ok(Commit(Hash([1, 1, 1, 1, 1, 1, 1, 1, 1, 1, 1, 1, 1, 1, 1, 1, 1, 1, 1, 1])))
+    cast a committed->Ok((2, Open))
+    withdraw b->Ok(())
+    collect b 2->Ok(Canceled)
+    outcome 2->Ok(Fail)
+    stop ->Err(Decided)
+    cancel ->Ok(())
+    close ->Ok(())
+    close ->Err(UnknownTx(TxId(7)))";
 
 #[test]
 fn a_transaction_is_registered_voted_on_and_closed(rt: HostRuntime) -> Result<(), Fail> {
-    let alloc = rt.alloc();
-    let name = StorageName::read(b"a")?;
-    let other = StorageName::read(b"b")?;
-    let weight = 1;
-    let voters = [
-        Voter { name, weight },
-        Voter {
-            name: other,
-            weight,
-        },
-    ];
-    let panel = Panel::new(alloc, &voters, 2)?;
-    let mut manager = Manager::new(alloc);
-    let tx = TxId(7);
-    let refused = manager.register(alloc, tx, &panel, 9);
-    assert_eq!(rt; refused, Err(RegisterRefusal::BadRounds { n: 9 }));
-    assert!(rt; are_lawful_rounds(8));
-    manager.register(alloc, tx, &panel, 1)?;
-    let first = manager.cast(tx, &name, Phase::Prepared, &RED);
-    assert_eq!(rt; first, Ok((1, VoterResult::Open)));
-    let second = manager.cast(tx, &other, Phase::Prepared, &RED)?;
-    assert_eq!(rt; second.0, 1);
-    assert_eq!(rt; manager.outcome(tx, 1), Ok(Outcome::Commit(RED)));
-    let third = manager.cast(tx, &name, Phase::Committed, &RED);
-    assert_eq!(rt; third, Ok((2, VoterResult::Open)));
-    assert_eq!(rt; manager.cancel_voter(tx, &other), Ok(()));
-    assert_eq!(rt; manager.collect(tx, &other, 2), Ok(VoterResult::Canceled));
-    assert_eq!(rt; manager.outcome(tx, 2), Ok(Outcome::Fail));
-    assert_eq!(rt; manager.stop(tx), Err(TxRefusal::Decided));
-    assert_eq!(rt; manager.cancel(tx), Ok(()));
-    assert_eq!(rt; manager.close(tx), Ok(()));
-    assert_eq!(rt; manager.close(tx), Err(TxRefusal::UnknownTx(tx)));
-    Ok(())
+    play(rt.alloc(), &mut Manager::new(rt.alloc()), CALLS)
 }

@@ -1,16 +1,15 @@
 //! Panels, votes and verdicts.
 
+use crate::calls::{Answers, play, told};
 use px_base::{Hash, StorageName};
-use std::alloc::{AllocError, Global};
+use std::alloc::Global;
 use std::test::Fail;
-use voters::{
-    CancelRefusal, CastRefusal, Outcome, Panel, PanelRefusal, StopRefusal, Sub, Verdict, Voter,
-    VoterResult,
-};
+use voters::{Panel, Sub, Verdict, Voter};
 
-const RED: Hash = Hash([1; 20]);
-
-const BLUE: Hash = Hash([2; 20]);
+/// A hash by its color.
+pub fn hash(color: &str) -> Hash {
+    Hash(if color == "red" { [1; 20] } else { [2; 20] })
+}
 
 fn voters(alloc: Global, names: &[u8], weight: u32) -> Result<Vec<Voter>, Fail> {
     let mut list = Vec::new(alloc);
@@ -21,91 +20,150 @@ fn voters(alloc: Global, names: &[u8], weight: u32) -> Result<Vec<Voter>, Fail> 
     Ok(list)
 }
 
-#[test]
-fn a_panel_needs_a_threshold_above_half_that_it_can_reach(rt: HostRuntime) -> Result<(), Fail> {
-    let alloc = rt.alloc();
-    // weight of each of two voters, threshold, and whether that is a panel
-    for (weight, threshold, want) in [
-        (1, 2, true),
-        (1, 1, false),
-        (2, 3, true),
-        (2, 5, false),
-        (0, 0, false),
-    ] {
-        let panel = Panel::new(alloc, &voters(alloc, b"ab", weight)?, threshold);
-        assert_eq!(rt; panel.is_ok(), want, "{weight} {threshold}");
-    }
-    let most = u32::MAX;
-    let panel = Panel::new(alloc, &voters(alloc, b"ab", most)?, u64::from(most) + 1)?;
-    assert_eq!(rt; panel.total(), 2 * u64::from(most));
-    assert_eq!(rt; panel.threshold(), u64::from(most) + 1);
-    assert_eq!(rt; panel.voters().len(), 2);
-    let none = Panel::new(alloc, &[], 1);
-    assert!(rt; matches!(none, Err(PanelRefusal::NoVoters)));
-    Ok(())
+/// A panel of voters of one letter and one weight each.
+pub fn panel(alloc: Global, names: &[u8], weight: u32, threshold: u64) -> Result<Panel, Fail> {
+    Ok(Panel::new(alloc, &voters(alloc, names, weight)?, threshold)?)
 }
 
-#[test]
-fn a_verdict_needs_a_threshold_above_half_that_is_reached(rt: HostRuntime) {
-    // reached, threshold, total, and whether that is a quorum
-    let table = [
-        (2, 2, 3, true),
-        (1, 2, 3, false),
-        (2, 2, 4, false),
-        (4, 2, 3, false),
-        (u64::MAX, u64::MAX, u64::MAX, true),
-    ];
-    for (reached, threshold, total, want) in table {
-        match Verdict::of(RED, reached, threshold, total) {
-            Some(verdict) => {
-                assert!(rt; want);
-                assert_eq!(rt; verdict.hash(), RED);
-                assert_eq!(rt; verdict.reached(), reached);
-                assert_eq!(rt; verdict.threshold(), threshold);
-                assert_eq!(rt; verdict.total(), total);
-            }
-            None => assert!(rt; !want),
+// The total weight, the threshold and the number of voters of a panel, or why there is none.
+fn paneled(alloc: Global, names: &[u8], weight: u32, threshold: u64) -> Result<String, Fail> {
+    match Panel::new(alloc, &voters(alloc, names, weight)?, threshold) {
+        Ok(panel) => {
+            let (total, count) = (panel.total(), panel.voters().len());
+            Ok(format!(in alloc; "{total} {} {count}", panel.threshold())?)
+        }
+        Err(refusal) => told(alloc, refusal),
+    }
+}
+
+// A verdict for red: whether that is its hash, and its three weights.
+fn verdict(alloc: Global, reached: u64, threshold: u64, total: u64) -> Result<String, Fail> {
+    match Verdict::of(hash("red"), reached, threshold, total) {
+        Some(verdict) => {
+            let red = verdict.hash() == hash("red");
+            let (reached, total) = (verdict.reached(), verdict.total());
+            Ok(format!(in alloc; "{red} {reached} {} {total}", verdict.threshold())?)
+        }
+        None => Ok(String::from_str(alloc, "none")?),
+    }
+}
+
+// The code of panels and verdicts. Each call has three words.
+#[derive(Clone, Copy)]
+struct Makers;
+
+impl Answers for Makers {
+    fn answer(&mut self, alloc: Global, name: &str, rest: &str) -> Result<String, Fail> {
+        let mut words = rest.split_whitespace();
+        let first = words.next().unwrap_or("");
+        let second = words.next().unwrap_or("").parse::<u64>()?;
+        let third = words.next().unwrap_or("").parse::<u64>()?;
+        match name {
+            "panel" => paneled(alloc, first.as_bytes(), u32::try_from(second)?, third),
+            "nobody" => paneled(alloc, b"", 1, third),
+            _ => verdict(alloc, first.parse::<u64>()?, second, third),
         }
     }
 }
 
+// Two voters, the weight of each, and the threshold.
+const PANELS: &str = "\
+    panel ab 1 2->2 2 2
+    panel ab 1 1->BadThreshold { total: 2, threshold: 1 }
+    panel ab 2 3->4 3 2
+    panel ab 2 5->BadThreshold { total: 4, threshold: 5 }
+    panel ab 0 0->BadThreshold { total: 0, threshold: 0 }
+    panel ab 4294967295 4294967296->8589934590 4294967296 2
+    nobody 0 0 1->NoVoters";
+
+#[test]
+fn a_panel_needs_a_threshold_above_half_that_it_can_reach(rt: HostRuntime) -> Result<(), Fail> {
+    play(rt.alloc(), &mut Makers, PANELS)
+}
+
+// What is reached, the threshold, and the total; the last number is 2^64 - 1.
+const VERDICTS: &str = "\
+    verdict 2 2 3->true 2 2 3
+    verdict 1 2 3->none
+    verdict 2 2 4->none
+    verdict 4 2 3->none
+    verdict 18446744073709551615 18446744073709551615 18446744073709551615->true \
+        18446744073709551615 18446744073709551615 18446744073709551615";
+
+#[test]
+fn a_verdict_needs_a_threshold_above_half_that_is_reached(rt: HostRuntime) -> Result<(), Fail> {
+    play(rt.alloc(), &mut Makers, VERDICTS)
+}
+
+impl Answers for Sub {
+    fn answer(&mut self, alloc: Global, name: &str, rest: &str) -> Result<String, Fail> {
+        let (voter, color) = rest.split_once(" ").unwrap_or((rest, ""));
+        let voter = voter.parse::<u32>().unwrap_or(0);
+        match name {
+            "len" => told(alloc, self.len()),
+            "cast" => told(alloc, self.cast(voter, &hash(color))),
+            "cancel" => told(alloc, self.cancel(voter)),
+            "cancel_all" => told(alloc, self.cancel_all()),
+            "stop" => told(alloc, self.stop()),
+            "result" => told(alloc, self.result(voter)),
+            _ => told(alloc, self.outcome()),
+        }
+    }
+}
+
+// Makes the calls of a table to a vote of three voters with this threshold.
+fn play_votes(alloc: Global, threshold: u64, table: &str) -> Result<(), Fail> {
+    let mut sub = Sub::new(alloc, &panel(alloc, b"abc", 1, threshold)?)?;
+    play(alloc, &mut sub, table)
+}
+
+// The hash of red is twenty ones, and that of blue is twenty twos.
+const DECIDED: &str = "\
+    len ->3
+    cast 0 red->Ok(Open)
+    outcome ->Open
+    cast 1 red->Ok(Committed(Verdict { hash: \
+        Hash([1, 1, 1, 1, 1, 1, 1, 1, 1, 1, 1, 1, 1, 1, 1, 1, 1, 1, 1, 1]), \
+        reached: 2, threshold: 2, total: 3 }))
+    outcome ->Commit(Hash([1, 1, 1, 1, 1, 1, 1, 1, 1, 1, 1, 1, 1, 1, 1, 1, 1, 1, 1, 1]))
+    result 0->Some(Committed(Verdict { hash: \
+        Hash([1, 1, 1, 1, 1, 1, 1, 1, 1, 1, 1, 1, 1, 1, 1, 1, 1, 1, 1, 1]), \
+        reached: 2, threshold: 2, total: 3 }))
+    cast 2 blue->Ok(Failed)
+    cast 2 red->Err(AlreadyVoted(\
+        Hash([2, 2, 2, 2, 2, 2, 2, 2, 2, 2, 2, 2, 2, 2, 2, 2, 2, 2, 2, 2])))
+    cast 3 red->Err(NotAVoter)
+    cancel 2->Err(Decided)
+    stop ->Err(Decided)
+    cancel_all ->0
+    result 3->None";
+
 #[test]
 fn two_of_three_decide(rt: HostRuntime) -> Result<(), Fail> {
-    let panel = Panel::new(rt.alloc(), &voters(rt.alloc(), b"abc", 1)?, 2)?;
-    let mut sub = Sub::new(rt.alloc(), &panel)?;
-    assert_eq!(rt; sub.len(), 3);
-    assert_eq!(rt; sub.cast(0, &RED), Ok(VoterResult::Open));
-    assert_eq!(rt; sub.outcome(), Outcome::Open);
-    let committed = sub.cast(1, &RED)?;
-    assert_eq!(rt; sub.outcome(), Outcome::Commit(RED));
-    assert_eq!(rt; sub.result(0), Some(committed));
-    assert_eq!(rt; sub.cast(2, &BLUE), Ok(VoterResult::Failed));
-    assert_eq!(rt; sub.cast(2, &RED), Err(CastRefusal::AlreadyVoted(BLUE)));
-    assert_eq!(rt; sub.cast(3, &RED), Err(CastRefusal::NotAVoter));
-    assert_eq!(rt; sub.cancel(2), Err(CancelRefusal::Decided));
-    assert_eq!(rt; sub.stop(), Err(StopRefusal::Decided));
-    assert_eq!(rt; sub.cancel_all(), 0);
-    assert_eq!(rt; sub.result(3), None);
-    Ok(())
+    play_votes(rt.alloc(), 2, DECIDED)
 }
+
+// The first cancel fails the vote, and still all three are canceled.
+const CANCELED: &str = "\
+    cast 0 red->Ok(Open)
+    cancel_all ->3
+    outcome ->Fail
+    result 0->Some(Canceled)";
+
+const FAILED: &str = "\
+    cancel 1->Ok(())
+    outcome ->Fail";
+
+const STOPPED: &str = "\
+    stop ->Ok(())
+    stop ->Err(Stopped)
+    outcome ->Stop
+    cast 0 red->Err(Stopped)
+    result 0->Some(Stopped)";
 
 #[test]
 fn votes_end_by_cancels_and_stops(rt: HostRuntime) -> Result<(), Fail> {
-    let panel = Panel::new(rt.alloc(), &voters(rt.alloc(), b"abc", 1)?, 3)?;
-    let mut canceled = Sub::new(rt.alloc(), &panel)?;
-    assert_eq!(rt; canceled.cast(0, &RED), Ok(VoterResult::Open));
-    // The first cancel fails the vote, and still all three are canceled.
-    assert_eq!(rt; canceled.cancel_all(), 3);
-    assert_eq!(rt; canceled.outcome(), Outcome::Fail);
-    assert_eq!(rt; canceled.result(0), Some(VoterResult::Canceled));
-    let mut stopped = Sub::new(rt.alloc(), &panel)?;
-    assert_eq!(rt; stopped.cancel(1), Ok(()));
-    assert_eq!(rt; stopped.outcome(), Outcome::Fail);
-    let mut stopped = Sub::new(rt.alloc(), &panel)?;
-    assert_eq!(rt; stopped.stop(), Ok(()));
-    assert_eq!(rt; stopped.stop(), Err(StopRefusal::Stopped));
-    assert_eq!(rt; stopped.outcome(), Outcome::Stop);
-    assert_eq!(rt; stopped.cast(0, &RED), Err(CastRefusal::Stopped));
-    assert_eq!(rt; stopped.result(0), Some(VoterResult::Stopped));
-    Ok(())
+    play_votes(rt.alloc(), 3, CANCELED)?;
+    play_votes(rt.alloc(), 3, FAILED)?;
+    play_votes(rt.alloc(), 3, STOPPED)
 }

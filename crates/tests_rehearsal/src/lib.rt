@@ -2,6 +2,8 @@
 #![tactic(auto)]
 
 #[cfg(test)]
+mod calls;
+#[cfg(test)]
 mod faults;
 #[cfg(test)]
 mod limits;
@@ -9,3 +11,5 @@ mod limits;
 mod rows;
 #[cfg(test)]
 mod runs;
+#[cfg(test)]
+mod worlds;

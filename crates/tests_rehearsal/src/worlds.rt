@@ -1,0 +1,99 @@
+//! Lines and events at a world, and what it answers.
+
+use crate::calls::{Answers, play};
+use px_base::{MemSink, MemSource, StorageName, TxId};
+use px_shell::{Act, StateMachine};
+use px_world::{Event, Refusal, RehearseEnd, Reply, World, line_of, rehearse};
+use std::alloc::Global;
+use std::test::Fail;
+use txmanager::TxRefusal;
+use voters::{Outcome, VoterResult};
+
+// A line that is printed, without its line feed.
+fn printed(bytes: &[u8]) -> &str {
+    let text = str::from_utf8(bytes).unwrap_or("?");
+    text.strip_suffix("\n").unwrap_or("no line feed")
+}
+
+fn act(alloc: Global, world: &mut World, line: &str) -> Result<String, Fail> {
+    match world.act(alloc, line.as_bytes()) {
+        Act::Prints(text) => Ok(String::from_str(alloc, printed(text.as_slice()))?),
+        Act::Nothing => Ok(String::from_str(alloc, "nothing")?),
+        Act::Bad => Ok(String::from_str(alloc, "bad")?),
+        Act::Memory => Ok(String::from_str(alloc, "memory")?),
+    }
+}
+
+// Events on the first vote of the first transaction, and a stop of the second one.
+fn event(word: &str) -> Result<Event, Fail> {
+    let (tx, sub) = (TxId(1), 1);
+    Ok(match word {
+        "collect" => Event::Collect {
+            tx,
+            voter: StorageName::read(b"a")?,
+            sub,
+        },
+        "outcome" => Event::Outcome { tx, sub },
+        _ => Event::Stop { tx: TxId(2) },
+    })
+}
+
+// The reply to an event, and its line.
+fn step(alloc: Global, world: &mut World, asked: &Event) -> Result<String, Fail> {
+    let reply = world.step(alloc, asked)?;
+    let kind = match reply {
+        Reply::Counted(VoterResult::Open) => "counted",
+        Reply::OutcomeIs(Outcome::Open) => "outcome",
+        Reply::Refused(Refusal::Transaction(TxRefusal::UnknownTx(TxId(2)))) => "unknown",
+        _ => "another",
+    };
+    let line = line_of(alloc, &reply)?;
+    Ok(format!(in alloc; "{kind} {}", printed(line.as_slice()))?)
+}
+
+impl Answers for World {
+    fn answer(&mut self, alloc: Global, name: &str, rest: &str) -> Result<String, Fail> {
+        match name {
+            "act" => act(alloc, self, rest),
+            _ => step(alloc, self, &event(rest)?),
+        }
+    }
+}
+
+// The number is 2^64 - 1.
+const LAST_NUMBER: &str = "\
+    act open 1 1 a:1->tx 18446744073709551615
+    act open 1 1 a:1->refused TransactionsSpent
+    act outcome 18446744073709551615 1->open
+    act # nothing->nothing
+    act nothing->bad";
+
+#[test]
+fn the_last_number_is_given_once(rt: HostRuntime) -> Result<(), Fail> {
+    let alloc = rt.alloc();
+    play(
+        alloc,
+        &mut World::after(alloc, TxId(u64::MAX - 1)),
+        LAST_NUMBER,
+    )
+}
+
+const STEPS: &str = "\
+    act open 1 1 a:1->tx 1
+    step collect->counted open
+    step outcome->outcome open
+    step stop->unknown refused UnknownTx 2";
+
+#[test]
+fn a_step_answers_and_its_reply_has_a_line(rt: HostRuntime) -> Result<(), Fail> {
+    let alloc = rt.alloc();
+    play(alloc, &mut World::new(alloc), STEPS)
+}
+
+#[test]
+fn an_empty_script_is_done(rt: HostRuntime) {
+    let alloc = rt.alloc();
+    let mut input = MemSource::new(Vec::new(alloc), Vec::new(alloc));
+    let mut out = MemSink::new(alloc, Vec::new(alloc));
+    assert!(rt; rehearse(alloc, &mut input, &mut out) == RehearseEnd::Done);
+}

@@ -54,29 +54,46 @@ fn work<S: Source, O: Sink>(
     out: &mut O,
 ) -> Result<(), End> {
     match words {
-        [word] if word.as_str() == "objects" => objects::objects(alloc, input, out),
-        [word] if word.as_str() == "hook" => references::hook(alloc, input, out),
-        [word] if word.as_str() == "vote" => references::vote(alloc, input, out),
+        [word] => read(alloc, word.as_str(), input, out),
         [word, count] if word.as_str() == "hash" => hash::hash(alloc, count.as_str(), out),
-        [word, count, turns] if word.as_str() == "chain" => {
-            closure::chain(alloc, count.as_str(), turns.as_str(), out)
+        [word, count, turns] => {
+            measure(alloc, word.as_str(), count.as_str(), turns.as_str(), out)
         }
-        [word, count, turns] if word.as_str() == "wide" => {
-            closure::wide(alloc, count.as_str(), turns.as_str(), out)
-        }
-        [word, count, turns] if word.as_str() == "create" => {
-            references::create(alloc, count.as_str(), turns.as_str(), out)
-        }
-        [word, count, turns] if word.as_str() == "change" => {
-            references::change(alloc, count.as_str(), turns.as_str(), out)
-        }
-        [word, count, turns] if word.as_str() == "push" => {
-            pushes::push(alloc, count.as_str(), turns.as_str(), out)
-        }
-        [word, count, turns] if word.as_str() == "open" => {
-            pushes::open(alloc, count.as_str(), turns.as_str(), out)
-        }
-        [word] if word.as_str() == "rows" => rows::rows(alloc, input, out),
+        _ => Err(End::Usage),
+    }
+}
+
+// Work on the input.
+fn read<S: Source, O: Sink>(
+    alloc: Global,
+    word: &str,
+    input: &mut S,
+    out: &mut O,
+) -> Result<(), End> {
+    match word {
+        "objects" => objects::objects(alloc, input, out),
+        "hook" => references::hook(alloc, input, out),
+        "vote" => references::vote(alloc, input, out),
+        "rows" => rows::rows(alloc, input, out),
+        _ => Err(End::Usage),
+    }
+}
+
+// Work of a size, in turns.
+fn measure<O: Sink>(
+    alloc: Global,
+    word: &str,
+    count: &str,
+    turns: &str,
+    out: &mut O,
+) -> Result<(), End> {
+    match word {
+        "chain" => closure::chain(alloc, count, turns, out),
+        "wide" => closure::wide(alloc, count, turns, out),
+        "create" => references::create(alloc, count, turns, out),
+        "change" => references::change(alloc, count, turns, out),
+        "push" => pushes::push(alloc, count, turns, out),
+        "open" => pushes::open(alloc, count, turns, out),
         _ => Err(End::Usage),
     }
 }

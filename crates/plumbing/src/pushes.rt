@@ -1,15 +1,12 @@
 //! `push N TURNS`: makes N repositories at a node in memory, and then as many pushes as TURNS says,
 //! each of one new reference and one blob, into one repository after the other. `open N TURNS`: does
 //! so with ten pushes for each repository, and then opens a node over what the keeper has, as many
-//! times as TURNS says. Each prints how many repositories the last node holds; `open` with no turns
-//! opens none, and prints 0.
+//! times as TURNS says. Each prints how many repositories the last node holds.
 
 use crate::end::{End, number};
-use crate::references::print;
-use objstore::name_of;
+use crate::references::{name_of, print};
 use px_base::{
-    Bytes, Hash, Kind, Lease, NameFault, Object, Objects, Push, RefName, RepoPath, Sink, Update,
-    Updates,
+    Bytes, Hash, Kind, Lease, NameFault, Object, Objects, Push, RepoPath, Sink, Update, Updates,
 };
 use px_keeper::MemKeeper;
 use px_node::{Node, NodeError, OpenFault, Shelf};
@@ -32,37 +29,48 @@ fn lease(number: u64) -> Result<Lease, End> {
     Lease::new(number).ok_or(End::BadInput)
 }
 
+fn path(alloc: Global, number: u32) -> Result<RepoPath, End> {
+    let text = format!(in alloc; "group/{number:08}.git")?;
+    match RepoPath::read(alloc, text.as_bytes()) {
+        Ok(path) => Ok(path),
+        Err(NameFault::Memory) => Err(End::Memory),
+        Err(_) => Err(End::BadInput),
+    }
+}
+
 // Paths of so many repositories.
 fn paths(alloc: Global, count: u32) -> Result<Vec<RepoPath>, End> {
     let mut paths = Vec::new(alloc);
     for number in 0..count {
-        let text = format!(in alloc; "group/{number:08}.git")?;
-        match RepoPath::read(alloc, text.as_bytes()) {
-            Ok(path) => paths.push(path).map_err(|_| End::Memory)?,
-            Err(NameFault::Memory) => return Err(End::Memory),
-            Err(_) => return Err(End::BadInput),
-        }
+        paths.push(path(alloc, number)?).map_err(|_| End::Memory)?;
     }
     Ok(paths)
+}
+
+// A creation of a reference that names a blob of this content.
+fn updates(alloc: Global, name: &str) -> Result<Updates, End> {
+    let mut updates = Updates::new(alloc);
+    updates.push(Update {
+        old: Hash::zero(),
+        new: objstore::name_of(Kind::Blob, name.as_bytes()),
+        name: name_of(alloc, name.as_bytes())?,
+    })?;
+    Ok(updates)
+}
+
+// The blob of this content.
+fn objects(alloc: Global, content: &str) -> Result<Objects, End> {
+    let content = Bytes::from_slice(alloc, content.as_bytes())?;
+    let mut objects = Objects::new(alloc);
+    objects.push(Object::new(Kind::Blob, content).ok_or(End::BadInput)?)?;
+    Ok(objects)
 }
 
 // A push of one new reference and one blob, both with this number.
 fn push_of(alloc: Global, number: u32) -> Result<Push, End> {
     let text = format!(in alloc; "refs/heads/branch-{number:08}")?;
-    let name = match RefName::read(alloc, text.as_bytes()) {
-        Ok(name) => name,
-        Err(NameFault::Memory) => return Err(End::Memory),
-        Err(_) => return Err(End::BadInput),
-    };
-    let content = Bytes::from_slice(alloc, text.as_bytes())?;
-    let mut updates = Updates::new(alloc);
-    updates.push(Update {
-        old: Hash::zero(),
-        new: name_of(Kind::Blob, content.as_slice()),
-        name,
-    })?;
-    let mut objects = Objects::new(alloc);
-    objects.push(Object::new(Kind::Blob, content).ok_or(End::BadInput)?)?;
+    let updates = updates(alloc, text.as_str())?;
+    let objects = objects(alloc, text.as_str())?;
     Ok(Push { updates, objects })
 }
 
@@ -76,27 +84,47 @@ fn push_one<N: Node>(alloc: Global, node: &mut N, path: &RepoPath, number: u32) 
     Ok(())
 }
 
-/// A node in memory with so many repositories, and with so many pushes done.
-pub fn pushed(alloc: Global, count: u32, pushes: u32) -> Result<Shelf<MemKeeper>, End> {
-    let mut node = Shelf::new(alloc, MemKeeper::new(alloc, Vec::new(alloc)));
+// Makes so many pushes, into one repository after the other.
+fn push_all<N: Node>(
+    alloc: Global,
+    node: &mut N,
+    paths: &[RepoPath],
+    pushes: u32,
+) -> Result<(), End> {
+    for number in 0..pushes {
+        let place = number as usize % paths.len().max(1);
+        push_one(alloc, node, paths.get(place).ok_or(End::Usage)?, number)?;
+    }
+    Ok(())
+}
+
+// Makes so many repositories, and so many pushes into them.
+fn fill<N: Node>(alloc: Global, node: &mut N, count: u32, pushes: u32) -> Result<(), End> {
     let paths = paths(alloc, count)?;
     for path in &paths {
         done(node.create(alloc, path, lease(1)?))?;
     }
-    for number in 0..pushes {
-        let place = number % count.max(1);
-        let path = paths.get(place as usize).ok_or(End::Usage)?;
-        push_one(alloc, &mut node, path, number)?;
-    }
+    push_all(alloc, node, &paths, pushes)
+}
+
+// A node in memory with so many repositories, and with so many pushes done.
+fn pushed(alloc: Global, count: u32, pushes: u32) -> Result<Shelf<MemKeeper>, End> {
+    let mut node = Shelf::new(alloc, MemKeeper::new(alloc, Vec::new(alloc)));
+    fill(alloc, &mut node, count, pushes)?;
     Ok(node)
+}
+
+// Prints how many repositories a node holds.
+fn tell<N: Node, O: Sink>(alloc: Global, node: &mut N, out: &mut O) -> Result<(), End> {
+    let held = done(node.list(alloc))?;
+    let line = format!(in alloc; "{}\n", held.len())?;
+    print(out, line.as_bytes())
 }
 
 /// Makes so many repositories and so many pushes.
 pub fn push<O: Sink>(alloc: Global, count: &str, turns: &str, out: &mut O) -> Result<(), End> {
     let mut node = pushed(alloc, number(count)?, number(turns)?)?;
-    let held = done(node.list(alloc))?;
-    let line = format!(in alloc; "{}\n", held.len())?;
-    print(out, line.as_bytes())
+    tell(alloc, &mut node, out)
 }
 
 // The node over the keeper of another one.
@@ -108,20 +136,21 @@ fn again(alloc: Global, node: Shelf<MemKeeper>) -> Result<Shelf<MemKeeper>, End>
     }
 }
 
+// The node over the keeper of another one, opened so many times.
+fn opened(alloc: Global, node: Shelf<MemKeeper>, turns: u32) -> Result<Shelf<MemKeeper>, End> {
+    let mut node = node;
+    for _ in 0..turns {
+        node = again(alloc, node)?;
+    }
+    Ok(node)
+}
+
 /// Opens a node over the keeper of one with so many repositories, again and again.
 pub fn open<O: Sink>(alloc: Global, count: &str, turns: &str, out: &mut O) -> Result<(), End> {
     let count = number(count)?;
     let turns = number(turns)?;
     let pushes = count.checked_mul(PUSHES_EACH).ok_or(End::Usage)?;
-    let mut node = pushed(alloc, count, pushes)?;
-    for _ in 0..turns {
-        node = again(alloc, node)?;
-    }
-    let held = if turns == 0 {
-        0
-    } else {
-        done(node.list(alloc))?.len()
-    };
-    let line = format!(in alloc; "{held}\n")?;
-    print(out, line.as_bytes())
+    let node = pushed(alloc, count, pushes)?;
+    let mut node = opened(alloc, node, turns)?;
+    tell(alloc, &mut node, out)
 }

@@ -33,7 +33,8 @@ fn update_of(alloc: Global, text: &[u8]) -> Result<Update, End> {
     Ok(Update { old, new, name })
 }
 
-fn name_of(alloc: Global, text: &[u8]) -> Result<RefName, End> {
+/// The name of a reference that a text is.
+pub fn name_of(alloc: Global, text: &[u8]) -> Result<RefName, End> {
     match RefName::read(alloc, text) {
         Ok(name) => Ok(name),
         Err(NameFault::BadName { .. }) => Err(End::BadInput),
@@ -79,18 +80,34 @@ pub fn vote<S: Source, O: Sink>(alloc: Global, input: &mut S, out: &mut O) -> Re
     print(out, text.as_slice())
 }
 
+// An update of the branch of a number.
+fn update(alloc: Global, number: u32, old: Hash, new: Hash) -> Result<Update, End> {
+    let text = format!(in alloc; "refs/heads/branch-{number:08}")?;
+    let name = name_of(alloc, text.as_bytes())?;
+    Ok(Update { old, new, name })
+}
+
 // So many creations, each of another branch.
 fn creations(alloc: Global, count: u32) -> Result<Updates, End> {
     let mut updates = Updates::new(alloc);
     for number in 0..count {
-        let text = format!(in alloc; "refs/heads/branch-{number:08}")?;
-        updates.push(Update {
-            old: Hash::zero(),
-            new: Hash([1; 20]),
-            name: name_of(alloc, text.as_bytes())?,
-        })?;
+        updates.push(update(alloc, number, Hash::zero(), Hash([1; 20]))?)?;
     }
     Ok(updates)
+}
+
+fn prepare(alloc: Global, refs: &Refs, updates: &Updates) -> Result<Prepared, End> {
+    match Prepared::new(alloc, refs, updates.as_slice()) {
+        Ok(prepared) => Ok(prepared),
+        Err(RefRefusal::Memory) => Err(End::Memory),
+        Err(_) => Err(End::BadInput),
+    }
+}
+
+// How many references there are once the updates are done.
+fn count_after(alloc: Global, refs: &Refs, updates: &Updates) -> Result<usize, End> {
+    let prepared = prepare(alloc, refs, updates)?;
+    Ok(prepared.refs().len())
 }
 
 // Prepares the updates as many times as there are turns, and prints how many references there are
@@ -103,19 +120,10 @@ fn tell<O: Sink>(
     out: &mut O,
 ) -> Result<(), End> {
     for _ in 0..turns {
-        let prepared = prepare(alloc, refs, updates)?;
-        let line = format!(in alloc; "{}\n", prepared.refs().len())?;
+        let line = format!(in alloc; "{}\n", count_after(alloc, refs, updates)?)?;
         print(out, line.as_bytes())?;
     }
     Ok(())
-}
-
-fn prepare(alloc: Global, refs: &Refs, updates: &Updates) -> Result<Prepared, End> {
-    match Prepared::new(alloc, refs, updates.as_slice()) {
-        Ok(prepared) => Ok(prepared),
-        Err(RefRefusal::Memory) => Err(End::Memory),
-        Err(_) => Err(End::BadInput),
-    }
 }
 
 /// Prepares so many creations on no references.
@@ -124,16 +132,18 @@ pub fn create<O: Sink>(alloc: Global, count: &str, turns: &str, out: &mut O) -> 
     tell(alloc, &Refs::new(alloc), &updates, number(turns)?, out)
 }
 
+// So many references.
+fn created(alloc: Global, count: u32) -> Result<Refs, End> {
+    let mut refs = Refs::new(alloc);
+    let updates = creations(alloc, count)?;
+    prepare(alloc, &refs, &updates)?.commit(&mut refs);
+    Ok(refs)
+}
+
 /// Prepares one update on so many references.
 pub fn change<O: Sink>(alloc: Global, count: &str, turns: &str, out: &mut O) -> Result<(), End> {
-    let mut refs = Refs::new(alloc);
-    let updates = creations(alloc, number(count)?)?;
-    prepare(alloc, &refs, &updates)?.commit(&mut refs);
+    let refs = created(alloc, number(count)?)?;
     let mut one = Updates::new(alloc);
-    one.push(Update {
-        old: Hash([1; 20]),
-        new: Hash([2; 20]),
-        name: name_of(alloc, b"refs/heads/branch-00000000")?,
-    })?;
+    one.push(update(alloc, 0, Hash([1; 20]), Hash([2; 20]))?)?;
     tell(alloc, &refs, &one, number(turns)?, out)
 }

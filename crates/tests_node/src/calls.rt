@@ -25,19 +25,23 @@ pub fn answer<N: Node>(alloc: Global, node: &mut N, call: &str) -> Result<String
     }
 }
 
-/// The calls of a table that a node answers otherwise, with what it answers. A line is a call and,
-/// after `->`, the answer that is wanted.
-pub fn amiss<N: Node>(alloc: Global, node: &mut N, table: &str) -> Result<String, Fail> {
-    let mut amiss = String::new(alloc);
+/// Fails where a call is answered otherwise than wanted.
+pub fn compare(call: &str, told: &str, want: &str) -> Result<(), Fail> {
+    if told.trim() == want.trim() {
+        return Ok(());
+    }
+    Err(Fail::new(format_args!("{call} is answered: {told}")))
+}
+
+/// Makes the calls of a table to a node, and fails at the first one that is answered otherwise than
+/// its line says. A line is a call and, after `->`, the answer that is wanted.
+pub fn play<N: Node>(alloc: Global, node: &mut N, table: &str) -> Result<(), Fail> {
     for line in table.lines() {
         let (call, want) = line.split_once("->").unwrap_or((line, ""));
         let told = answer(alloc, node, call)?;
-        if told.as_str().trim() != want.trim() {
-            amiss.push_str(call)?;
-            amiss.push_str(told.as_str())?;
-        }
+        compare(call, told.as_str(), want)?;
     }
-    Ok(amiss)
+    Ok(())
 }
 
 fn on_repository<N: Node>(

@@ -1,5 +1,6 @@
 //! The keeper in memory.
 
+use crate::calls::compare;
 use px_base::Bytes;
 use px_keeper::{Batch, KeepFault, Keeper, MemKeeper};
 use std::alloc::{AllocError, Global};
@@ -82,25 +83,15 @@ fn answer(alloc: Global, keeper: &mut MemKeeper, call: &str) -> Result<String, A
     }
 }
 
-// The calls of a table that a keeper answers otherwise, with what it answers. A line is a call and,
-// after `->`, the answer that is wanted.
-fn amiss(alloc: Global, keeper: &mut MemKeeper, table: &str) -> Result<String, AllocError> {
-    let mut amiss = String::new(alloc);
+// Makes the calls of a table to a keeper that has no rows, and of which these calls fail.
+fn play_at_first(alloc: Global, failing: &[u64], table: &str) -> Result<(), Fail> {
+    let mut keeper = MemKeeper::new(alloc, Vec::from_slice(alloc, failing)?);
     for line in table.lines() {
         let (call, want) = line.split_once("->").unwrap_or((line, ""));
-        let told = answer(alloc, keeper, call.trim_start())?;
-        if told.as_str().trim() != want.trim() {
-            amiss.push_str(call)?;
-            amiss.push_str(told.as_str())?;
-        }
+        let told = answer(alloc, &mut keeper, call.trim_start())?;
+        compare(call, told.as_str(), want)?;
     }
-    Ok(amiss)
-}
-
-// The calls of a table that a keeper with no rows answers otherwise, of which these calls fail.
-fn amiss_at_first(alloc: Global, failing: &[u64], table: &str) -> Result<String, AllocError> {
-    let mut keeper = MemKeeper::new(alloc, Vec::from_slice(alloc, failing)?);
-    amiss(alloc, &mut keeper, table)
+    Ok(())
 }
 
 const WHOLE: &str = "\
@@ -113,9 +104,7 @@ const WHOLE: &str = "\
 
 #[test]
 fn a_batch_is_kept_whole_and_in_order(rt: HostRuntime) -> Result<(), Fail> {
-    let amiss = amiss_at_first(rt.alloc(), &[], WHOLE)?;
-    assert_eq!(rt; amiss.as_str(), "");
-    Ok(())
+    play_at_first(rt.alloc(), &[], WHOLE)
 }
 
 const FAILING: &str = "\
@@ -128,7 +117,5 @@ const FAILING: &str = "\
 
 #[test]
 fn a_call_that_fails_does_nothing_and_is_counted(rt: HostRuntime) -> Result<(), Fail> {
-    let amiss = amiss_at_first(rt.alloc(), &[2, 3, 4], FAILING)?;
-    assert_eq!(rt; amiss.as_str(), "");
-    Ok(())
+    play_at_first(rt.alloc(), &[2, 3, 4], FAILING)
 }

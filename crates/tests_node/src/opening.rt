@@ -1,6 +1,6 @@
 //! Nodes that are opened over the rows that a keeper has.
 
-use crate::calls::amiss;
+use crate::calls::{compare, play};
 use crate::keeper::rows;
 use crate::shelf::CALLS;
 use px_keeper::{Batch, Keeper, MemKeeper};
@@ -8,18 +8,17 @@ use px_node::{OpenFault, Shelf};
 use std::alloc::{AllocError, Global};
 use std::test::Fail;
 
-// The calls of two tables that are answered otherwise, the second by the node that is opened over what
-// the first one left.
-fn amiss_after(alloc: Global, before: &str, after: &str) -> Result<String, Fail> {
+// Makes the calls of a table to a node that has nothing, and those of another one to the node that is
+// opened over what it left.
+fn play_twice(alloc: Global, before: &str, after: &str) -> Result<(), Fail> {
     let mut node = Shelf::new(alloc, MemKeeper::new(alloc, Vec::new(alloc)));
-    let first = amiss(alloc, &mut node, before)?;
-    let then = amiss_again(alloc, node.into_keeper(), after)?;
-    Ok(format!(in alloc; "{first}{then}")?)
+    play(alloc, &mut node, before)?;
+    play_again(alloc, node.into_keeper(), after)
 }
 
-fn amiss_again(alloc: Global, keeper: MemKeeper, table: &str) -> Result<String, Fail> {
+fn play_again(alloc: Global, keeper: MemKeeper, table: &str) -> Result<(), Fail> {
     match Shelf::open(alloc, keeper) {
-        Ok(mut node) => amiss(alloc, &mut node, table),
+        Ok(mut node) => play(alloc, &mut node, table),
         Err(_) => Err(Fail::new("the node was not opened")),
     }
 }
@@ -33,9 +32,7 @@ const LEFT: &str = "\
 
 #[test]
 fn what_was_done_is_there_again(rt: HostRuntime) -> Result<(), Fail> {
-    let amiss = amiss_after(rt.alloc(), CALLS, LEFT)?;
-    assert_eq!(rt; amiss.as_str(), "");
-    Ok(())
+    play_twice(rt.alloc(), CALLS, LEFT)
 }
 
 // A push that was done, and one that is ready.
@@ -55,9 +52,7 @@ const KEPT: &str = "\
 
 #[test]
 fn a_push_that_was_ready_is_lost_and_one_that_was_done_stays(rt: HostRuntime) -> Result<(), Fail> {
-    let amiss = amiss_after(rt.alloc(), PUSHES, KEPT)?;
-    assert_eq!(rt; amiss.as_str(), "");
-    Ok(())
+    play_twice(rt.alloc(), PUSHES, KEPT)
 }
 
 // The rows of a node, written by hand: x.git has the fence 3 and the last lease 2 and is held, its
@@ -125,21 +120,23 @@ fn told_so(alloc: Global, words: &str, text: &str) -> Result<String, Fail> {
     Ok(format!(in alloc; "{} 0 {kept}", words.trim())?)
 }
 
-// The lines of a table that come to something else. A line is rows and, after `->`, what opening
-// comes to; with none, its only row is the bad one. `#` begins a remark.
-fn lines_amiss(alloc: Global, table: &str) -> Result<String, Fail> {
-    let mut amiss = String::new(alloc);
+// Opens a node over each line of a table, and fails at the first one that comes to something else. A
+// line is rows and, after `->`, what opening comes to; with none, its only row is the bad one. `#`
+// begins a remark.
+fn open_each(alloc: Global, table: &str) -> Result<(), Fail> {
     for line in table.lines() {
-        if line.trim().starts_with("#") {
-            continue;
-        }
-        let (text, words) = wanted(line);
-        let told = comes_to(alloc, keeper_of(alloc, text, Vec::new(alloc))?)?;
-        if told.as_str() != told_so(alloc, words, text)?.as_str() {
-            amiss.push_str(line)?;
+        if !line.trim_start().starts_with("#") {
+            open_over(alloc, line)?;
         }
     }
-    Ok(amiss)
+    Ok(())
+}
+
+fn open_over(alloc: Global, line: &str) -> Result<(), Fail> {
+    let (text, words) = wanted(line);
+    let told = comes_to(alloc, keeper_of(alloc, text, Vec::new(alloc))?)?;
+    let want = told_so(alloc, words, text)?;
+    compare(line, told.as_str(), want.as_str())
 }
 
 // The rows of a line, and what they come to.
@@ -197,9 +194,7 @@ const BAD_ROWS: &str = "\
 
 #[test]
 fn a_bad_row_is_named(rt: HostRuntime) -> Result<(), Fail> {
-    let amiss = lines_amiss(rt.alloc(), BAD_ROWS)?;
-    assert_eq!(rt; amiss.as_str(), "");
-    Ok(())
+    open_each(rt.alloc(), BAD_ROWS)
 }
 
 const GOOD_ROWS: &str = "\
@@ -215,9 +210,7 @@ const GOOD_ROWS: &str = "\
 
 #[test]
 fn good_rows_are_taken_over(rt: HostRuntime) -> Result<(), Fail> {
-    let amiss = lines_amiss(rt.alloc(), GOOD_ROWS)?;
-    assert_eq!(rt; amiss.as_str(), "");
-    Ok(())
+    open_each(rt.alloc(), GOOD_ROWS)
 }
 
 const FIRST_BAD_ROWS: &str = "\
@@ -249,9 +242,7 @@ const FIRST_BAD_ROWS: &str = "\
 
 #[test]
 fn of_several_bad_rows_the_one_in_the_earliest_place_is_named(rt: HostRuntime) -> Result<(), Fail> {
-    let amiss = lines_amiss(rt.alloc(), FIRST_BAD_ROWS)?;
-    assert_eq!(rt; amiss.as_str(), "");
-    Ok(())
+    open_each(rt.alloc(), FIRST_BAD_ROWS)
 }
 
 // What opening comes to over the good rows where a call of the keeper fails.
@@ -267,10 +258,9 @@ fn a_keeper_that_fails_is_given_back_with_its_rows(rt: HostRuntime) -> Result<()
     // tables, are the calls 2 to 260.
     for call in 2u64..261 {
         let told = failing_at(rt.alloc(), call)?;
-        assert_eq!(rt; told.as_str(), wanted.as_str(), "{call}");
+        compare("a scan", told.as_str(), wanted.as_str())?;
     }
     // Opening makes no call more: the call 261 fails where the rows are listed afterwards.
-    let last = failing_at(rt.alloc(), 261)?;
-    assert_eq!(rt; last.as_str(), "ok 0 a scan failed");
-    Ok(())
+    let told = failing_at(rt.alloc(), 261)?;
+    compare("an opening", told.as_str(), "ok 0 a scan failed")
 }

@@ -20,7 +20,7 @@ fn word(hash: &Hash) -> &'static str {
     }
 }
 
-// The words of a refusal that says no more than its kind, or of which only that is shown.
+// The kind of a refusal.
 fn kind(refusal: &NodeRefusal) -> &'static str {
     match refusal {
         NodeRefusal::Fenced { .. } => "fenced",

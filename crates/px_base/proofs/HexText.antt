@@ -102,6 +102,29 @@ reads_hash text out answer lawful known =
     let of : hash_of text ≡ Some (record { 0 = b.0 }) = rw (all, read) refl in
     (told.0, ap encode_lower told.1 ∙ b.1, ap (λ (x : List ℕ). Some (let h : Hash = record { 0 = x } in h)) told.1 ∙ sym of)
 
+size_when_read : (read : Result (List ℕ) FromHexError) (text out : List ℕ) (answer : Result (Unit {0}) FromHexError)
+    → decode_sized text 20 ≡ read → Answers read answer out → answer ≡ Ok tt → length text ≡ 40
+size_when_read (Ok bytes) text out answer is known took = decode_sized-ok text 20 bytes is
+size_when_read (Err e) text out answer is known took = cc
+
+-- digits alone that it takes are the text of a hash
+pub lawful_when_read : (text out : List ℕ) (answer : Result (Unit {0}) FromHexError) → list_all is_hex_digit text ≡ true
+    → Answers (decode_sized text 20) answer out → answer ≡ Ok tt → IsHashText text
+lawful_when_read text out answer all known took = record {
+  size = size_when_read (decode_sized text 20) text out answer refl known took;
+  digits = AllPass-from_list_all is_hex_digit text all;
+}
+
+none_when_refused : (read : Result (List ℕ) FromHexError) (out : List ℕ) (answer : Result (Unit {0}) FromHexError) (e : FromHexError)
+    → Answers read answer out → answer ≡ Err e → hash_from read ≡ None
+none_when_refused (Ok bytes) out answer e known refused = cc
+none_when_refused (Err f) out answer e known refused = refl
+
+-- what it refuses is no hash
+pub no_hash_when_refused : (text out : List ℕ) (answer : Result (Unit {0}) FromHexError) (e : FromHexError) → list_all is_hex_digit text ≡ true
+    → Answers (decode_sized text 20) answer out → answer ≡ Err e → hash_of text ≡ None
+no_hash_when_refused text out answer e all known refused = rw all (none_when_refused (decode_sized text 20) out answer e known refused)
+
 -- so it does not refuse one
 pub never_refused : (answer : Result (Unit {0}) FromHexError) (e : FromHexError) → answer ≡ Ok tt → answer ≡ Err e → ⊥
 never_refused answer e took refused = cc

@@ -1,6 +1,7 @@
 //! SHA-1 digests, and their text.
 
 ghost use Rattle.std.specs.Prelude.{◌≡◌, ℕ, List, IfSome, IfNone};
+ghost use Rattle.std.specs.List.{list_all};
 ghost use Rattle.px_base.specs.Hash.{hash_of, hash_text, is_hex_digit, is_zero, zero_hash, IsHash, IsHashText};
 
 /// A SHA-1 digest (FIPS 180-4). Votes, and the names of Git's objects, are such digests.
@@ -16,6 +17,13 @@ pub fn is_hex_digit(byte: u8) -> bool
     ensures { result ≡ is_hex_digit byte }
 {
     matches!(byte, b'0'..=b'9' | b'a'..=b'f')
+}
+
+// Whether each byte is such a digit.
+fn has_digits_alone(text: &[u8]) -> bool
+    ensures { result ≡ list_all is_hex_digit text.now }
+{
+    text.iter().all(|byte| is_hex_digit(*byte))
 }
 
 impl Hash {
@@ -41,7 +49,7 @@ impl Hash {
         ensures lawful { IfSome result (λ hash. IsHashText text.now) }
         ensures refused { IfNone result (¬ (IsHashText text.now)) }
     {
-        if !text.iter().all(|byte| is_hex_digit(*byte)) {
+        if !has_digits_alone(text) {
             return None;
         }
         let mut bytes = [0; 20];

@@ -1,6 +1,6 @@
 //! Streams in memory, which tell their bytes, and fail at chosen calls.
 
-ghost use Rattle.std.specs.Prelude.{◌-◌, [], ◌≡◌, ◌≤◌, ◌<◌, ◌↔◌, length, drop, Some, Contains, vec_len};
+ghost use Rattle.std.specs.Prelude.{◌-◌, [], ◌≡◌, ◌≤◌, ◌<◌, ◌↔◌, length, drop, Some, Contains, IsTrue, vec_len};
 ghost use Rattle.px_base.specs.Causes.{one_more};
 ghost use Rattle.px_base.specs.Memory.{CountsCall};
 ghost use Rattle.px_base.specs.Sink.{WriteTakes, WriteHasCause};
@@ -8,6 +8,13 @@ ghost use Rattle.px_base.specs.Source.{ReadGives, ReadHasCause};
 
 use crate::{ReadEnd, Sink, Source, WriteEnd};
 use std::alloc::Global;
+
+// Whether the call of this number is one of those that fail.
+fn is_listed(failing: &[u64], call: u64) -> bool
+    ensures { IsTrue result ↔ Contains failing.now call }
+{
+    failing.contains(&call)
+}
 
 /// A source over bytes in memory. The calls whose numbers are listed fail; the first call has the number 1.
 #[derive(Drop)]
@@ -54,7 +61,7 @@ impl Source for MemSource {
             self.old.failing.items self.new.failing.items }
     {
         self.calls = self.calls.saturating_add(1);
-        if self.failing.contains(&self.calls) {
+        if is_listed(&self.failing, self.calls) {
             self.faults = self.faults.saturating_add(1);
             return ReadEnd::Failed;
         }
@@ -122,7 +129,7 @@ impl Sink for MemSink {
             self.old.failing.items self.new.failing.items }
     {
         self.calls = self.calls.saturating_add(1);
-        if self.failing.contains(&self.calls) || self.bytes.extend_from_slice(bytes).is_err() {
+        if is_listed(&self.failing, self.calls) || self.bytes.extend_from_slice(bytes).is_err() {
             self.faults = self.faults.saturating_add(1);
             return WriteEnd::Failed;
         }

@@ -36,16 +36,8 @@ impl Count {
         requires { sum_by voter_weight voters.now < 2 ^ 64 }
         ensures { IfOk result (λ count. count ≡ map fresh voters.now) }
     {
-        let mut pending = 0;
-        let mut marks = Vec::with_capacity(alloc, voters.len())?;
-        for voter in voters {
-            pending += u64::from(voter.weight);
-            marks.push(Mark {
-                weight: voter.weight,
-                vote: None,
-                canceled: false,
-            })?;
-        }
+        let pending = weight_of(voters);
+        let marks = fresh_marks(alloc, voters)?;
         let tallies = Vec::with_capacity(alloc, voters.len())?;
         Ok(Count {
             marks,
@@ -120,6 +112,33 @@ impl Count {
             canceled: true,
         };
     }
+}
+
+// What all votes weigh.
+fn weight_of(voters: &[Voter]) -> u64
+    requires { sum_by voter_weight voters.now < 2 ^ 64 }
+    ensures { result ≡ sum_by voter_weight voters.now }
+{
+    let mut weight = 0;
+    for voter in voters {
+        weight += u64::from(voter.weight);
+    }
+    weight
+}
+
+// A mark with no act for each voter.
+fn fresh_marks(alloc: Global, voters: &[Voter]) -> Result<Vec<Mark>, AllocError>
+    ensures { IfOk result (λ marks. marks.items ≡ map fresh voters.now) }
+{
+    let mut marks = Vec::with_capacity(alloc, voters.len())?;
+    for voter in voters {
+        marks.push_reserved(Mark {
+            weight: voter.weight,
+            vote: None,
+            canceled: false,
+        });
+    }
+    Ok(marks)
 }
 
 fn open_part(mark: Mark) -> u64

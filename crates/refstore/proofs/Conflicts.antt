@@ -1,9 +1,10 @@
 -- The least name that is in conflict with another: the shortest above it, or else the least under it.
-use Rattle.std.proofs.Common.{◌≡◌, ℕ, ◌+◌, ◌<◌, ◌≤◌, List, [], ◌∷◌, ◌++◌, true, false, Option, Some, None, refl, sym, ap, ◌∙◌, subst, ◌⊎◌, ⊎_elim, length, take, slice_get, arith}
+use Rattle.std.proofs.Common.{◌≡◌, ℕ, ◌+◌, ◌<◌, ◌≤◌, List, [], ◌∷◌, ◌++◌, true, false, Bool, Option, Some, None, refl, sym, ap, ◌∙◌, subst, ◌⊎◌, ⊎_elim, length, take, slice_get, arith}
+use Rattle.std.specs.List.{starts_with}
 use Rattle.std.specs.List.Sorted.{IsStrictlySortedBy}
 use Rattle.std.specs.Map.{keys_of}
 use Rattle.std.specs.Option.{IsSome, is_some}
-use Rattle.std.specs.Prelude.{MatchOption, Result, Ok, Err, IfOk}
+use Rattle.std.specs.Prelude.{nat_eq, MatchOption, Result, Ok, Err, IfOk}
 use Rattle.std.specs.declared.alloc.AllocError.{AllocError}
 use Rattle.std.specs.Ordering.{is_gt, ordering_reverse}
 use Rattle.std.proofs.lemmas.Bool.{cases_lt, false_from_ne_true, or_cases, or_left, or_right}
@@ -15,6 +16,15 @@ use Rattle.refstore.proofs.Under.{Begins, Begins-bare, Begins-between, Begins-fr
 use Rattle.refstore.specs.Conflicts.{IsLeastAbove, IsLeastUnder, NoneAbove, NoneBefore, NoneUnder}
 use Rattle.refstore.specs.RefMap.{AllBelow, IsLeastFrom}
 use Rattle.refstore.specs.Updates.{least_conflict}
+
+-- a test of whether one begins with the other and a slash tells whether it is under it
+pub tested : (whole front found name : List ℕ) (result value : Bool)
+    → result ≡ starts_with nat_eq whole front → whole ≡ found → front ≡ name ++ 47 ∷ []
+    → result ≡ value → is_under found name ≡ value
+tested whole front found name result value test same is told =
+    sym (test ∙ ap (λ (s : List ℕ). starts_with nat_eq s front) same
+    ∙ ap (λ (s : List ℕ). starts_with nat_eq found s) is)
+    ∙ told
 
 module _ (refs : References) (name : List ℕ) where
   -- a name of which this one is the rest is not there, where none above it is

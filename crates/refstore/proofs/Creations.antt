@@ -80,7 +80,7 @@ module _ (refs : References) (name : List ℕ) (id : Hash) (some : is_zero id �
   done = insert_entry name_cmp refs name id
 
   -- its creation is to set it
-  after-creation : after refs (creation name id ∷ []) ≡ done
+  pub after-creation : after refs (creation name id ∷ []) ≡ done
   after-creation = cond-false (is_zero id) (remove_entry (is_at (name_cmp name)) refs) done some
 
   -- it is there then

@@ -1,8 +1,10 @@
 //! The references of a repository.
 
-ghost use Rattle.std.specs.Prelude.{◌≡◌, ◌⊎◌, ◌↔◌, [], ◌∷◌, length, IfOk, IfErr, IsTrue, OnOk, OnErr, Some};
+ghost use Rattle.std.specs.Prelude.{◌≡◌, ◌⊎◌, ◌↔◌, [], ◌∷◌, length, false, IfOk, IfErr, IsTrue, OnOk, OnErr, Some, None};
+ghost use Rattle.px_base.specs.Hash.{is_zero};
 ghost use Rattle.px_base.specs.RefList.{IsRefList, ref_at};
-ghost use Rattle.refstore.specs.Updates.{Fits, after, creation, refusal_of};
+ghost use Rattle.refstore.specs.RefMap.{IsRefMap};
+ghost use Rattle.refstore.specs.Updates.{Fits, after, creation, least_conflict, refusal_of};
 
 use crate::conflict::least_conflict;
 use crate::prepared::RefRefusal;
@@ -114,16 +116,51 @@ impl Refs {
         if id.is_zero() {
             return Err(RefRefusal::Void { name });
         }
-        if let Some(have) = stands {
-            return Err(RefRefusal::Stale { name, have });
+        match stands {
+            Some(have) => Err(RefRefusal::Stale { name, have }),
+            None => add(&mut self.map, alloc, name, id),
         }
-        if let Some(with) = least_conflict(alloc, &self.map, &name)? {
-            return Err(RefRefusal::Conflict { name, with });
-        }
-        if self.map.len() >= MAX_REFS {
-            return Err(RefRefusal::TooManyRefs);
-        }
-        self.map.set(alloc, &name, id)?;
-        Ok(())
     }
+}
+
+// Creates a reference that is not there, of an object that is not the zero name.
+fn add(map: &mut RefMap, alloc: Global, name: RefName, id: ObjectId) -> Result<(), RefRefusal>
+    requires map { IsRefMap map.old }
+    requires some { is_zero id ≡ false }
+    requires absent { ref_at map.old name ≡ None }
+    ensures ok { OnOk result (map.new ≡ after map.old (creation name id ∷ [])) }
+    ensures list { OnOk result (IsRefList map.old → IsRefList map.new) }
+    ensures accepted { OnOk result (Fits (creation name id ∷ []) map.old) }
+    ensures refused { IfErr result (λ e. (e ≡ RefRefusal.Memory)
+        ⊎ (refusal_of map.old (creation name id ∷ []) ≡ Some e)) }
+    ensures err { OnErr result (map.new ≡ map.old) }
+{
+    match least_conflict(alloc, map, &name)? {
+        Some(with) => Err(RefRefusal::Conflict { name, with }),
+        None => add_apart(map, alloc, &name, id),
+    }
+}
+
+// Creates such a reference, where it is in conflict with none.
+fn add_apart(
+    map: &mut RefMap,
+    alloc: Global,
+    name: &RefName,
+    id: ObjectId,
+) -> Result<(), RefRefusal>
+    requires some { is_zero id ≡ false }
+    requires absent { ref_at map.old name.now ≡ None }
+    requires apart { least_conflict map.old name.now ≡ None }
+    ensures ok { OnOk result (map.new ≡ after map.old (creation name.now id ∷ [])) }
+    ensures list { OnOk result (IsRefList map.old → IsRefList map.new) }
+    ensures accepted { OnOk result (Fits (creation name.now id ∷ []) map.old) }
+    ensures refused { IfErr result (λ e. (e ≡ RefRefusal.Memory)
+        ⊎ (refusal_of map.old (creation name.now id ∷ []) ≡ Some e)) }
+    ensures err { OnErr result (map.new ≡ map.old) }
+{
+    if map.len() >= MAX_REFS {
+        return Err(RefRefusal::TooManyRefs);
+    }
+    map.set(alloc, name, id)?;
+    Ok(())
 }

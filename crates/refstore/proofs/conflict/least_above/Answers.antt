@@ -1,5 +1,5 @@
-use Rattle.std.proofs.Common.{◌≡◌, ap, sym, ◌∙◌, length, arith, ◌<◌, ◌+◌, take, get_or, List, ℕ}
-use Rattle.std.proofs.lemmas.Option.{get_or_from_slice_get, slice_get_within}
+use Rattle.std.proofs.Common.{◌≡◌, ap, sym, ◌∙◌, subst, Some, slice_get, length, arith, ◌<◌, ◌+◌, take, get_or, List, ℕ}
+use Rattle.std.proofs.lemmas.Option.{get_or_from_slice_get, slice_get-get_or, slice_get_within}
 use Rattle.std.proofs.lemmas.List.{take_more}
 use Rattle.std.specs.Option.{is_some}
 use Rattle.px_base.specs.RefList.{ref_at}
@@ -40,3 +40,19 @@ loop-byte-preserved c = record {
             ∙ get_or_from_slice_get c.args.name.now c.loop-byte.byte-index 47 0 slash))
       ]);
 }
+
+pub returns-then-contains : goal.returns-then-contains
+returns-then-contains c = record {
+  place = c.loop-byte.byte-index;
+  slash = subst (λ (s : List ℕ). slice_get s c.loop-byte.byte-index ≡ Some 47)
+      c.as_bytes-bytes.ensures.value
+      (slice_get-get_or c.as_bytes-bytes.result.now c.loop-byte.byte-index 0 c.loop-byte-test.true
+      ∙ ap Some c.if-byte-eq47.true);
+  is = c.of.ensures ∙ c.loop-byte.invariant.front;
+  there = ap (λ (s : List ℕ). is_some (ref_at c.args.map.now s)) c.of.ensures
+      ∙ sym c.contains.ensures.value ∙ c.if-contains.true;
+  shortest = c.loop-byte.invariant.none;
+}
+
+pub of-requires : goal.of-requires
+of-requires c = c.contains.ensures.name c.if-contains.true

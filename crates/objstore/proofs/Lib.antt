@@ -7,6 +7,7 @@ pub mod EntriesLemmas
 mod FirstLemmas
 pub mod Ids
 pub mod Places
+mod PutLemmas
 mod QueueLemmas
 mod QueuedLemmas
 pub mod ReachedLemmas

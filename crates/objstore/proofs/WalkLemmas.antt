@@ -1,13 +1,18 @@
 -- Walks: all that stands in the queue is reachable, and at the end all that is reachable was taken.
-use Rattle.std.proofs.Common.{◌≡◌, ℕ, zero, suc, List, [], ◌∷◌, ◌++◌, None, sym, refl, ap, ◌∙◌, subst, ⊎_elim, append_assoc}
+use Rattle.std.proofs.Common.{◌≡◌, ℕ, zero, suc, List, [], ◌∷◌, ◌++◌, None, sym, refl, ap, ◌∙◌, subst, ◌⊎◌, ⊎_elim, append_assoc}
 use Rattle.std.specs.List.{Contains, IsDistinct}
 use Rattle.std.specs.Option.{IsSome}
+use Rattle.std.specs.Prelude.{Result, Ok, Err, IfErr}
+use Rattle.std.specs.Result.{IsErrAnd}
 use Rattle.std.proofs.lemmas.List.{append-nil}
 use Rattle.std.proofs.lemmas.List.Elements.{Contains-append_right, Contains-push_cases}
 use Rattle.px_base.specs.declared.hash.Hash.{Hash}
 use Rattle.objstore.proofs.Ids.{Contains-first, Contains-same, none_stands}
 use Rattle.objstore.proofs.QueuedLemmas.{taken-all_queued, keeps_all, has_all, only_all, distinct_all}
 use Rattle.objstore.specs.Entries.{is_id}
+use Rattle.objstore.specs.Missing.{IsMissed}
+use Rattle.objstore.specs.declared.store.ClosedFault.{ClosedFault}
+use Rattle.objstore.specs.declared.store.ClosedFault.TheVariants.{Missing, Memory}
 use Rattle.objstore.specs.Reach.{Objects, links_in, Leads, IsReachable, IsClosed}
 use Rattle.objstore.specs.Walk.{Walk, empty, stood, all_queued, one_step, walk_after, IsWalk, AllFound, IsFirstMissing}
 
@@ -25,6 +30,12 @@ front_stands : (taken : List Hash) (id : Hash) (waiting : List Hash)
     → Contains (taken ++ id ∷ waiting) id
 front_stands taken id waiting =
     Contains-append_right taken (id ∷ waiting) id (Contains-first id waiting)
+
+-- what holds of a cause holds of the cause that it is told as
+pub told_as : {T : Type 0} (P : ClosedFault → Type 0) (result : Result T ClosedFault) (e : ClosedFault)
+    → IsErrAnd result (λ told. told ≡ e) → P e → IfErr result P
+told_as P (Ok value) e is holds = tt
+told_as P (Err told) e is holds = subst P (sym is) holds
 
 module _ (objects : Objects) (tips : List Hash) where
   -- ---- all that stands in the queue is reachable
@@ -225,3 +236,13 @@ module _ (objects : Objects) (tips : List Hash) where
         (Contains-same id (ap (λ (ids : List Hash). walk.taken ++ ids) (sym front))
         (front_stands walk.taken id waiting)),
   )
+
+  -- so where the walk ends for this cause, or memory wants, the cause is told
+  pub told_missed : (walk : Walk) (id : Hash) (waiting : List Hash) (e : ClosedFault)
+      → IsWalk objects tips walk → walk.waiting ≡ id ∷ waiting → AllFound objects walk.taken
+      → (e ≡ Memory) ⊎ (e ≡ Missing id) × (objects id ≡ None) → IsMissed objects tips e
+  told_missed walk id waiting e is front found cause = ⊎_elim
+      (λ wanted. subst (IsMissed objects tips) (sym wanted) tt)
+      (λ misses. subst (IsMissed objects tips) (sym misses.0)
+      (front_is_missing walk id waiting is front found misses.1))
+      cause

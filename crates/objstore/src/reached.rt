@@ -8,7 +8,7 @@ ghost use Rattle.objstore.specs.Reached.{AreReached};
 ghost use Rattle.objstore.specs.Walk.{all_queued};
 
 use crate::queue::Queue;
-use crate::store::{Store, links_in_form};
+use crate::store::{Store, push_links};
 use px_base::{ObjectId, Objects};
 use std::alloc::{AllocError, Global};
 
@@ -43,8 +43,7 @@ impl Store {
         let Some(object) = self.get(id) else {
             return Ok(());
         };
-        let links = links_in_form(alloc, object)?;
-        queue.push_all(links.as_slice())?;
+        push_links(alloc, object, queue)?;
         found.push(object.copy(alloc)?)?;
         Ok(())
     }

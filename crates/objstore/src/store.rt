@@ -1,6 +1,6 @@
 //! A store of objects.
 
-ghost use Rattle.std.specs.Prelude.{◌≡◌, ◌⊎◌, ◌↔◌, [], length, IfOk, IfErr, IfSome, IsTrue, OnOk, OnErr, None};
+ghost use Rattle.std.specs.Prelude.{◌≡◌, ◌⊎◌, ◌↔◌, [], length, IfOk, IfErr, IfSome, IsSome, IsTrue, OnOk, OnErr, None};
 ghost use Rattle.std.specs.BTreeMap.{insert_entry, is_at};
 ghost use Rattle.std.specs.Map.{keys_of, remove_entry};
 ghost use Rattle.std.specs.Option.{option_copied};
@@ -10,7 +10,8 @@ ghost use Rattle.px_base.specs.declared.hash.Hash.{Hash};
 ghost use Rattle.object_format.specs.Links.{bad_byte, links_of};
 ghost use Rattle.objstore.specs.Entries.{AreSmall, IsNamed, IsStore, object_at, object_in};
 ghost use Rattle.objstore.specs.Put.{AddsObject, IsRefused, Puts};
-ghost use Rattle.objstore.specs.Reach.{IsClosed};
+ghost use Rattle.objstore.specs.Reach.{IsClosed, links_in};
+ghost use Rattle.objstore.specs.Walk.{all_queued};
 ghost use Rattle.objstore.specs.Missing.{IsMissed};
 
 use crate::queue::Queue;
@@ -199,13 +200,29 @@ impl Store {
         let mut queue = Queue::new(alloc);
         queue.push_all(tips)?;
         while let Some(id) = queue.take() {
-            let Some(object) = self.find(&id, extra) else {
-                return Err(ClosedFault::Missing(id));
-            };
-            let links = links_in_form(alloc, object)?;
-            queue.push_all(links.as_slice())?;
+            self.follow_in(alloc, extra, &id, &mut queue)?;
         }
         Ok(())
+    }
+
+    // Puts the links of the object of an id, here or else in the extra store, to the queue.
+    fn follow_in(
+        &self,
+        alloc: Global,
+        extra: &Store,
+        id: &ObjectId,
+        queue: &mut Queue,
+    ) -> Result<(), ClosedFault>
+        ensures queue { OnOk result (queue.new
+            ≡ all_queued queue.old (links_in (object_in self.now extra.now id.now))) }
+        ensures found { OnOk result (IsSome (object_in self.now extra.now id.now)) }
+        ensures missing { IfErr result (λ e. (e ≡ ClosedFault.Memory)
+            ⊎ (e ≡ ClosedFault.Missing id.now) × (object_in self.now extra.now id.now ≡ None)) }
+    {
+        match self.find(id, extra) {
+            Some(object) => Ok(push_links(alloc, object, queue)?),
+            None => Err(ClosedFault::Missing(*id)),
+        }
     }
 
     // The object of an id here, or else in the extra store.
@@ -221,8 +238,22 @@ impl Store {
     }
 }
 
+// Puts the links of an object that has the form of its kind to the queue.
+pub(crate) fn push_links(
+    alloc: Global,
+    object: &Object,
+    queue: &mut Queue,
+) -> Result<(), AllocError>
+    requires { bad_byte object.now.kind object.now.content ≡ None }
+    ensures { OnOk result (queue.new
+        ≡ all_queued queue.old (links_of object.now.kind object.now.content)) }
+{
+    let links = links_in_form(alloc, object)?;
+    queue.push_all(links.as_slice())
+}
+
 // The links of an object that has the form of its kind.
-pub(crate) fn links_in_form(alloc: Global, object: &Object) -> Result<Ids, AllocError>
+fn links_in_form(alloc: Global, object: &Object) -> Result<Ids, AllocError>
     requires { bad_byte object.now.kind object.now.content ≡ None }
     ensures { IfOk result (λ ids. ids ≡ links_of object.now.kind object.now.content) }
 {

@@ -1,11 +1,11 @@
 -- The walk goes on; its end, and its first id without an object.
-use Rattle.std.proofs.Common.{◌≡◌, ◌+◌, ◌≤◌, [], ◌∷◌, ◌++◌, Some, length, sym, refl, ap, ◌∙◌, subst, arith}
+use Rattle.std.proofs.Common.{◌≡◌, ◌+◌, ◌≤◌, [], ◌∷◌, ◌++◌, length, sym, ap, ◌∙◌, subst, arith}
 use Rattle.std.proofs.lemmas.List.{length-append}
-use Rattle.std.specs.Option.{IsSome}
 use Rattle.objstore.specs.Entries.{object_in}
+use Rattle.objstore.specs.Missing.{IsMissed}
 use Rattle.objstore.specs.Reach.{Objects, links_in}
 use Rattle.objstore.specs.Walk.{Walk, empty, all_queued, IsWalk, AllFound}
-use Rattle.objstore.proofs.WalkLemmas.{IsWalk-begins, IsWalk-next, AllFound-begins, AllFound-next, front_is_missing, closed_at_end}
+use Rattle.objstore.proofs.WalkLemmas.{IsWalk-begins, IsWalk-next, AllFound-begins, AllFound-next, told_as, told_missed, closed_at_end}
 use Rattle.objstore.proofs.QueuedLemmas.{taken-all_queued}
 use Rattle.objstore.proofs.BoundLemmas.{taken_few}
 use Rattle.objstore.proofs.store.Store.closed.Goals as goal
@@ -22,53 +22,42 @@ loop-id-init c =
           (AllFound-begins objects tips);
     }
 
-pub returns-in_default-find-clause-missing : goal.returns-in_default-find-clause-missing
-returns-in_default-find-clause-missing c =
-    front_is_missing (object_in c.args.self.now c.args.extra.now) c.args.tips.now c.loop-id.queue
-    c.in-Some.id c.take.new.self.waiting c.loop-id.invariant.walk c.in-Some.ensures.0
-    c.loop-id.invariant.found (sym c.in_default-find.ensures.value)
+pub returns-in_err-follow_in-clause-missing : goal.returns-in_err-follow_in-clause-missing
+returns-in_err-follow_in-clause-missing c =
+    let objects = object_in c.args.self.now c.args.extra.now in
+    told_as (IsMissed objects c.args.tips.now) c.from_residual-in_err-follow_in.result _
+    c.from_residual-in_err-follow_in.ensures.1
+    (told_missed objects c.args.tips.now c.loop-id.queue c.in-Some.id c.take.new.self.waiting _
+    c.loop-id.invariant.walk c.in-Some.ensures.0 c.loop-id.invariant.found
+    c.in_err-follow_in.ensures.missing)
 
-module _ (c : goal.After-drop-links-inside-in-Some) where
+module _ (c : goal.In_ok-follow_in) where
   -- the objects of both stores
   abbrev objects : Objects
   objects = object_in c.args.self.now c.args.extra.now
 
-  -- the object that was found
-  here : objects c.in-Some.id ≡ Some c.in-Some-find.object.now
-  here = sym c.in-Some-find.ensures.value
-
-  -- the queue once the links are in it
-  on : c.push_all-in-Some.new.self
-      ≡ all_queued c.take.new.self (links_in (objects c.in-Some.id))
-  on = c.in_ok-push_all-2.ensures
-      ∙ ap (all_queued c.take.new.self)
-      (c.as_slice.ensures ∙ c.in_ok-links.ensures ∙ ap links_in (sym here))
-
-  -- it is that of the walk
-  walks : IsWalk objects c.args.tips.now c.push_all-in-Some.new.self
+  -- the queue is that of the walk
+  walks : IsWalk objects c.args.tips.now c.follow_in.new.queue
   walks =
-      subst (IsWalk objects c.args.tips.now) (sym on)
+      subst (IsWalk objects c.args.tips.now) (sym c.in_ok-follow_in.ensures.queue)
       (IsWalk-next objects c.args.tips.now c.loop-id.queue c.take.new.self c.in-Some.id
       c.loop-id.invariant.walk c.in-Some.ensures.0 c.in-Some.ensures.1)
 
   -- one id more was taken
-  longer : c.push_all-in-Some.new.self.taken ≡ c.loop-id.queue.taken ++ c.in-Some.id ∷ []
-  longer = ap (λ (w : Walk). w.taken) on
+  longer : c.follow_in.new.queue.taken ≡ c.loop-id.queue.taken ++ c.in-Some.id ∷ []
+  longer = ap (λ (w : Walk). w.taken) c.in_ok-follow_in.ensures.queue
       ∙ taken-all_queued c.take.new.self (links_in (objects c.in-Some.id))
       ∙ c.in-Some.ensures.1
 
   -- and each that was taken has an object
-  finds : AllFound objects c.push_all-in-Some.new.self.taken
+  finds : AllFound objects c.follow_in.new.queue.taken
   finds =
-      AllFound-next objects c.args.tips.now c.loop-id.queue.taken
-      c.push_all-in-Some.new.self.taken c.in-Some.id c.loop-id.invariant.found
-      (subst IsSome (sym here) refl) longer
+      AllFound-next objects c.args.tips.now c.loop-id.queue.taken c.follow_in.new.queue.taken
+      c.in-Some.id c.loop-id.invariant.found c.in_ok-follow_in.ensures.found longer
 
   -- so there were no more than there are objects
-  few : length c.push_all-in-Some.new.self.taken
-      ≤ length c.args.self.now + length c.args.extra.now
-  few = taken_few c.args.self.now c.args.extra.now c.args.tips.now c.push_all-in-Some.new.self
-      walks finds
+  few : length c.follow_in.new.queue.taken ≤ length c.args.self.now + length c.args.extra.now
+  few = taken_few c.args.self.now c.args.extra.now c.args.tips.now c.follow_in.new.queue walks finds
 
 pub loop-id-preserved : goal.loop-id-preserved
 loop-id-preserved c = record { walk = walks c; found = finds c }

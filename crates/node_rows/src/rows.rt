@@ -210,8 +210,20 @@ fn remove_gone(
     ensures { OnOk result (batch.new ≡ batch.old ++ gone_changes repo.now new.now old.now) }
 {
     let list = old.list(alloc)?;
-    let pairs = list.as_slice();
-    for (name, _) in pairs {
+    remove_each(alloc, batch, repo, list.as_slice(), new)
+}
+
+// Adds that those of the references go that are not among the new ones.
+fn remove_each(
+    alloc: Global,
+    batch: &mut Batch,
+    repo: &RepoPath,
+    old: &[(RefName, ObjectId)],
+    new: &Refs,
+) -> Result<(), AllocError>
+    ensures { OnOk result (batch.new ≡ batch.old ++ gone_changes repo.now new.now old.now) }
+{
+    for (name, _) in old {
         if new.get(name).is_none() {
             remove_ref(alloc, batch, repo, name)?;
         }
@@ -230,8 +242,20 @@ fn put_new(
     ensures { OnOk result (batch.new ≡ batch.old ++ put_changes repo.now old.now new.now) }
 {
     let list = new.list(alloc)?;
-    let pairs = list.as_slice();
-    for (name, id) in pairs {
+    put_each(alloc, batch, repo, old, list.as_slice())
+}
+
+// Adds those of the references that are not among the old ones, or name another object there.
+fn put_each(
+    alloc: Global,
+    batch: &mut Batch,
+    repo: &RepoPath,
+    old: &Refs,
+    new: &[(RefName, ObjectId)],
+) -> Result<(), AllocError>
+    ensures { OnOk result (batch.new ≡ batch.old ++ put_changes repo.now old.now new.now) }
+{
+    for (name, id) in new {
         if !has(old, name, id) {
             put_ref(alloc, batch, repo, name, id)?;
         }

@@ -1,8 +1,8 @@
 use Rattle.std.proofs.Common.{◌≡◌, ◌++◌, drop}
 use Rattle.node_rows.specs.Writes.{put_changes}
-use Rattle.node_rows.proofs.rows.put_new.Given as goal
+use Rattle.node_rows.proofs.rows.put_each.Given as goal
 
 -- with those of what is left, the batch has the changes of all
 abbrev pub invariant-loop-name : goal.invariant-loop-name
 invariant-loop-name l =
-    l.batch ++ put_changes l.repo l.old (drop l.name-index l.pairs) ≡ l.initial.batch ++ put_changes l.repo l.old l.pairs
+    l.batch ++ put_changes l.repo l.old (drop l.name-index l.new) ≡ l.initial.batch ++ put_changes l.repo l.old l.new

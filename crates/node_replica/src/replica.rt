@@ -1,7 +1,7 @@
 //! What a node has of one repository, and what each call does to it.
 
 ghost use Rattle.std.specs.Prelude.{◌≡◌, ◌<◌, Err, ◌+◌, ◌≤◌, [], IfOk, IfErr, OnOk, OnErr, IsSome, IfSome, None, Some, true, false};
-ghost use Rattle.node_calls.specs.Calls.{aborted, abort_refusal, apply_refusal, commit_refusal, created, create_refusal, fenced, not_held, prepared, ready_under, removed, with_coming};
+ghost use Rattle.node_calls.specs.Calls.{aborted, abort_refusal, apply_refusal, commit_refusal, created, create_refusal, fenced, new_tips, not_held, prepared, ready_under, removed, with_coming};
 ghost use Rattle.node_replica.specs.Checks.{IsNoRefusal, Reads, Tests};
 ghost use Rattle.node_calls.specs.Reads.{HasObject, HasRefs, IsSnapshot};
 ghost use Rattle.node_rows.specs.Lawful.{IsLawfulPlace};
@@ -28,7 +28,7 @@ use crate::refused::{objects_refused, updates_refused};
 use node_calls::{NodeError, NodeRefusal, Snapshot};
 use node_rows::{ReplicaRow, add_objects, add_push, add_refs, begun, remove_objects};
 use objstore::{ClosedFault, Put, PutFault, Store, bundle};
-use px_base::{Hash, Lease, Object, ObjectId, Push, RefList, RefName, RepoPath};
+use px_base::{Hash, Lease, Object, ObjectId, Push, RefList, RefName, RepoPath, Update};
 use px_keeper::{Batch, Keeper};
 use refstore::{Prepared, RefRefusal, Refs};
 use std::alloc::{AllocError, Global};
@@ -229,8 +229,7 @@ impl Replica {
             Ok(prepared) => prepared,
             Err(refusal) => return Err(updates_refused(refusal)),
         };
-        let tips = tips_of(alloc, push.updates.as_slice())?;
-        self.has_all(alloc, tips.as_slice(), &extra)?;
+        self.has_new(alloc, push.updates.as_slice(), &extra)?;
         let push = copied_push(alloc, push)?;
         Ok(Ready {
             lease,
@@ -250,6 +249,17 @@ impl Replica {
             Err(ClosedFault::Missing(id)) => Err(NodeError::Refused(NodeRefusal::Missing { id })),
             Err(ClosedFault::Memory) => Err(NodeError::Memory),
         }
+    }
+
+    // Whether all that is reachable from what the updates give to names is here or among these objects.
+    fn has_new(&self, alloc: Global, updates: &[Update], extra: &Store) -> Result<(), NodeError>
+        ensures ok { OnOk result
+            (IsClosed (object_in self.now.objects extra.now) (new_tips updates.now)) }
+        ensures err { IfErr result
+            (IsMissing (object_in self.now.objects extra.now) (new_tips updates.now)) }
+    {
+        let tips = tips_of(alloc, updates)?;
+        self.has_all(alloc, tips.as_slice(), extra)
     }
 
     /// Makes a push ready, and drops any other one.

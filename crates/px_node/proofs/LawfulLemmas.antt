@@ -9,8 +9,8 @@ use Rattle.node_rows.proofs.Paths.{one_path}
 use Rattle.node_rows.proofs.RowLemmas.{this_or_other}
 use Rattle.node_rows.specs.Lawful.{IsLawful, IsLawfulPlace}
 use Rattle.node_rows.specs.Place.{Changes, Place, nothing}
-use Rattle.px_node.proofs.Places.{Changes-put, Puts}
-use Rattle.px_node.specs.Shelf.{AreLawful, Replicas, place_at}
+use Rattle.px_node.proofs.Places.{Changes-put}
+use Rattle.px_node.specs.Shelf.{AreLawful, Puts, Replicas, place_at}
 
 -- where there is none, all are
 pub lawful_at_first : (replicas : Replicas) → replicas ≡ [] → AreLawful replicas

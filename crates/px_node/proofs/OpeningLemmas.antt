@@ -20,10 +20,10 @@ use Rattle.node_rows.specs.Place.{Changes, NodeState, Place, ReadyPush, nothing,
 use Rattle.node_rows.specs.Reading.{IsReadTo, ObjectComes, RefComes, with_one, with_ref}
 use Rattle.px_node.proofs.NameSize.{name_size}
 use Rattle.px_node.proofs.LawfulLemmas.{AreLawful-put, lawful_at_first}
-use Rattle.px_node.proofs.Places.{Changes-back, Changes-put, Puts, place_here}
+use Rattle.px_node.proofs.Places.{Changes-back, Changes-put, place_here}
 use Rattle.px_node.specs.Opening.{AreTold, IsUnread, ReadTo, TakesObject, TakesRef}
 use Rattle.px_node.specs.RowKeys.{TellsObject, TellsRef}
-use Rattle.px_node.specs.Shelf.{AreLawful, Replicas, place_at}
+use Rattle.px_node.specs.Shelf.{AreLawful, Puts, Replicas, place_at}
 use Rattle.node_replica.specs.Told.{MayHaveObject, MayHaveRef}
 use Rattle.px_node.specs.declared.opening.Unread.{Unread}
 use Rattle.px_node.specs.declared.opening.Unread.TheVariants as unread

@@ -1,22 +1,17 @@
 -- What is under a path once a replica was put there, or changed.
-use Rattle.std.proofs.Common.{◌≡◌, ℕ, List, true, false, cond, Option, Some, None, refl, sym, ap, ◌∙◌, subst, ⊎_elim}
+use Rattle.std.proofs.Common.{◌≡◌, ℕ, List, true, false, Option, Some, None, refl, sym, ap, ◌∙◌, subst, ⊎_elim}
 use Rattle.std.specs.Map.{lookup}
-use Rattle.std.specs.Option.{is_some, unwrap_or}
+use Rattle.std.specs.Option.{IsSome, is_some, unwrap_or}
 use Rattle.std.proofs.lemmas.Bool.{cases_Bool, cond-false, cond-true}
 use Rattle.px_base.specs.RefList.{is_name}
 use Rattle.std.specs.Prelude.{Result, Ok, Err, OnOk, OnErr, IfOk}
 use Rattle.px_base.specs.declared.hash.Hash.{Hash}
 use Rattle.node_replica.specs.Effects.{CommitsAt, DoesReady}
 use Rattle.node_rows.specs.Place.{Changes, Place, Same, nothing}
-use Rattle.px_node.specs.Shelf.{Replicas, place_at}
+use Rattle.px_node.specs.Shelf.{Puts, Replicas, place_at}
 use Rattle.node_rows.proofs.Paths.{one_path, other_path, paths_laws}
 
--- under the path stands this, and all else is as before
-abbrev pub Puts : Replicas → Replicas → List ℕ → Place → Type 0
-Puts old new path place = (q : List ℕ)
-    → lookup (is_name q) new ≡ cond (is_name path q) (Some place) (lookup (is_name q) old)
-
--- so the node has it
+-- what was put under a path, the node has
 pub Changes-put : (old new : Replicas) (path : List ℕ) (place : Place) → Puts old new path place
     → Changes (place_at old) (place_at new) path place
 Changes-put old new path place puts = record {
@@ -27,6 +22,12 @@ Changes-put old new path place puts = record {
       ∙ cond-false (is_name path q) (Some place) (lookup (is_name q) old)
       (other_path path q differs));
 }
+
+-- there is room for it
+pub IsSome-put : (old new : Replicas) (path : List ℕ) (place : Place) → Puts old new path place
+    → IsSome (lookup (is_name path) new)
+IsSome-put old new path place puts = ap is_some (puts path
+    ∙ cond-true (is_name path path) (Some place) (lookup (is_name path) old) (paths_laws.refl path))
 
 -- nothing put where there was nothing changes nothing
 pub Same-put : (old new : Replicas) (path : List ℕ) → lookup (is_name path) old ≡ None

@@ -1,5 +1,5 @@
 -- What a shelf has of each repository.
-use Rattle.std.specs.Prelude.{◌≡◌, ℕ, List, IsSome, Option, Some}
+use Rattle.std.specs.Prelude.{◌≡◌, ℕ, List, IsSome, Option, Some, cond}
 use Rattle.std.specs.Map.{lookup}
 use Rattle.std.specs.Option.{unwrap_or}
 use Rattle.px_base.specs.RefList.{is_name}
@@ -16,6 +16,11 @@ Replicas = List (List ℕ × Place)
 -- what is there under a path, and nothing where the path is not there
 abbrev pub place_at : Replicas → NodeState
 place_at replicas path = unwrap_or (lookup (is_name path) replicas) nothing
+
+-- under the path stands this, and all else is as before
+abbrev pub Puts : Replicas → Replicas → List ℕ → Place → Type 0
+Puts old new path place = (q : List ℕ)
+    → lookup (is_name q) new ≡ cond (is_name path q) (Some place) (lookup (is_name q) old)
 
 -- under each path is what a place may have, and only under paths is there anything
 pub record AreLawful (replicas : Replicas) : Type 0 where

@@ -11,7 +11,7 @@ ghost use Rattle.px_base.specs.declared.hash.Hash.{Hash};
 ghost use Rattle.px_node.specs.Opening.{AreTold, IsUnread, ReadTo, TakesObject, TakesRef, TakesReplica, UnreadHasCause};
 ghost use Rattle.px_node.specs.Shelf.{place_at};
 
-use crate::replicas::Replicas;
+use crate::replicas::{Replicas, put};
 use crate::row_keys::{path_of, read_object_row, read_ref_row};
 use node_replica::{NotTaken, Replica};
 use node_rows::read_replica;
@@ -168,17 +168,17 @@ fn take_replica(
     ensures bad { result ≡ Err NotTaken.BadRow → ¬ (IsReplicaRow key.now value.now) }
     ensures told { OnOk result (AreTold replicas.new.entries) }
 {
+    let Some(row) = read_replica(value) else {
+        return Err(NotTaken::BadRow);
+    };
     let repo = match path_of(alloc, key) {
         Ok(repo) => repo,
         Err(error) => return Err(error),
     };
-    let Some(row) = read_replica(value) else {
-        return Err(NotTaken::BadRow);
-    };
     let replica = Replica::told(alloc, row);
     replica.is_lawful();
-    match replicas.insert(repo, replica) {
-        Ok(_) => Ok(()),
+    match put(replicas, repo, replica) {
+        Ok(()) => Ok(()),
         Err(_) => Err(NotTaken::Memory),
     }
 }

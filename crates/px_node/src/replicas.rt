@@ -11,7 +11,7 @@ ghost use Rattle.node_calls.specs.Ends.{ArePaths, NodeHasCause};
 ghost use Rattle.node_rows.specs.Place.{Changes, Same, nothing, raised};
 ghost use Rattle.node_replica.specs.Prepared.{IsReadyAt};
 ghost use Rattle.node_replica.specs.Hashes.{NameHashes};
-ghost use Rattle.px_node.specs.Shelf.{AreLawful, place_at};
+ghost use Rattle.px_node.specs.Shelf.{AreLawful, Puts, place_at};
 ghost use Rattle.node_replica.specs.Kept.{Keeps};
 
 use node_calls::NodeError;
@@ -70,6 +70,19 @@ pub(crate) fn find<'a>(replicas: &'a Replicas, repo: &RepoPath, unheard: &'a Unh
     }
 }
 
+/// Puts a replica under the path of a repository.
+pub(crate) fn put(
+    replicas: &mut Replicas,
+    path: RepoPath,
+    replica: Replica,
+) -> Result<(), AllocError>
+    ensures ok { OnOk result (Puts replicas.old.entries replicas.new.entries path replica) }
+    ensures err { OnErr result (replicas.new.entries ≡ replicas.old.entries) }
+{
+    replicas.insert(path, replica)?;
+    Ok(())
+}
+
 /// Makes room for a repository.
 pub(crate) fn make_room(
     alloc: Global,
@@ -82,9 +95,7 @@ pub(crate) fn make_room(
 {
     if !replicas.contains_key(repo) {
         let path = repo.copy(alloc)?;
-        let none = Replica::new(alloc);
-        none.is_lawful();
-        replicas.insert(path, none)?;
+        put(replicas, path, Replica::new(alloc))?;
     }
     Ok(())
 }

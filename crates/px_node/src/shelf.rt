@@ -156,11 +156,11 @@ impl<K: Keeper + Drop> Node for Shelf<K> {
             (K.rows self.old.keeper) (K.rows self.new.keeper)) }
     {
         let replica = find(&self.replicas, repo, &self.unheard);
+        let batch = replica.rows_fenced(alloc, repo, lease.number())?;
         let ready = match replica.prepared(alloc, lease, push) {
             Ok(ready) => ready,
             Err(error) => return Err(error),
         };
-        let batch = replica.rows_fenced(alloc, repo, lease.number())?;
         keep_rows(alloc, &mut self.replicas, &mut self.keeper, &batch, repo)?;
         let vote = ready.prepared.vote();
         replicas::prepare(&mut self.replicas, repo, ready);

@@ -4,15 +4,16 @@ use Rattle.px_base.specs.RepoPath.{IsRepoPath}
 use Rattle.node_rows.specs.Place.{Place}
 use Rattle.node_rows.specs.Reading.{said}
 use Rattle.px_node.proofs.OpeningLemmas.{told_put}
-use Rattle.px_node.proofs.Places.{Changes-put, Puts}
+use Rattle.px_node.proofs.Places.{Changes-put}
+use Rattle.px_node.specs.Shelf.{Puts}
 use Rattle.px_node.proofs.opening.take_replica.Goals as goal
 
-pub returns-in-Ok-insert-clause-ok : goal.returns-in-Ok-insert-clause-ok
-returns-in-Ok-insert-clause-ok c =
+pub returns-in-Ok-put-clause-ok : goal.returns-in-Ok-put-clause-ok
+returns-in-Ok-put-clause-ok c =
     let row = c.in-Some.row in
     let place : Place = said row.fence row.last row.held in
     let old = c.args.replicas.now.entries in
-    let new = c.insert.new.self.entries in
+    let new = c.put.new.replicas.entries in
     record {
       row = record {
         lawful = c.in-Ok.ensures.ok.0;
@@ -26,12 +27,12 @@ returns-in-Ok-insert-clause-ok c =
       changes = Changes-put old new c.args.key.now place
           (subst (λ (p : List ℕ). Puts old new p place) c.in-Ok.ensures.ok.1
           (subst (Puts old new c.in-Ok.repo) c.told-replica.ensures
-          c.in-Ok-insert.ensures.updates.0));
+          c.in-Ok-put.ensures.ok));
     }
 
-pub returns-in-Ok-insert-clause-told : goal.returns-in-Ok-insert-clause-told
-returns-in-Ok-insert-clause-told c =
-    told_put c.args.replicas.now.entries c.insert.new.self.entries c.in-Ok.repo
-    c.told-replica.result c.in-Ok-insert.ensures.updates.0 c.requires.told c.is_lawful.ensures
+pub returns-in-Ok-put-clause-told : goal.returns-in-Ok-put-clause-told
+returns-in-Ok-put-clause-told c =
+    told_put c.args.replicas.now.entries c.put.new.replicas.entries c.in-Ok.repo
+    c.told-replica.result c.in-Ok-put.ensures.ok c.requires.told c.is_lawful.ensures
     (ap (λ (p : Place). p.ready) c.told-replica.ensures)
     (subst IsRepoPath (sym c.in-Ok.ensures.ok.1) c.in-Ok.ensures.ok.0)

@@ -1,10 +1,11 @@
 //! A node that faults at chosen calls.
 
-ghost use Rattle.std.specs.Prelude.{◌≡◌, ◌⊎◌, ◌↔◌, ◌≤◌, ℕ, Some, Err, IsSome, IsTrue, IfErr, IfOk, IfSome};
+ghost use Rattle.std.specs.Prelude.{◌≡◌, ◌≤◌, None, Err, IsSome, IfErr};
 ghost use Rattle.px_base.specs.Causes.{one_more, Rose};
+ghost use Rattle.px_base.specs.Memory.{CountsCall};
 ghost use Rattle.node_calls.specs.Calls.{AbortRefuses, Aborts, ApplyRefuses, Applies, CommitRefuses, Commits, CreateRefuses, Creates, PrepareRefuses, Prepares, RemoveRefuses, Removes};
 ghost use Rattle.node_calls.specs.Ends.{Ends, FenceEnds, ListEnds, NodeHasCause, PingEnds, ReadEnds, Told};
-ghost use Rattle.node_calls.specs.Faulty.{IsPlanned};
+ghost use Rattle.node_calls.specs.Faulty.{KeepsPlan, fault_at};
 ghost use Rattle.node_calls.specs.Reads.{HasObject, HasRefs, IsSnapshot};
 ghost use Rattle.node_calls.specs.Refusals.{MayAnswer, Abort, Apply, Ask, Commit, Create, Fence, Prepare, Read, Remove};
 
@@ -33,7 +34,7 @@ pub struct PlannedFault {
 
 // When the call of this number is to fault, if it is.
 fn planned_at(planned: &[PlannedFault], call: u64) -> Option<When>
-    ensures { IsSome result ↔ IsPlanned planned.now call }
+    ensures { result ≡ fault_at planned.now call }
 {
     for fault in planned {
         if fault.call == call {
@@ -43,8 +44,8 @@ fn planned_at(planned: &[PlannedFault], call: u64) -> Option<When>
     None
 }
 
-/// A node behind which another one does the work, and which faults at the planned calls. A fault of
-/// the other node is one of its own too.
+/// A node behind which another one does the work, and which faults at the planned calls; where two of
+/// the list have one number, the first decides when. A fault of the other node is one of its own too.
 #[derive(Drop)]
 pub struct FaultyNode<N: Node + Drop> {
     inner: N,
@@ -78,8 +79,9 @@ impl<N: Node + Drop> FaultyNode<N> {
 
     // Counts a call, and says whether it is to fault, and when.
     fn next(&mut self) -> Option<When>
-        ensures planned { IsPlanned self.old.planned.items (one_more self.old.calls)
-            ↔ IsSome result }
+        ensures planned { result ≡ fault_at self.old.planned.items (one_more self.old.calls) }
+        ensures calls { CountsCall self.old.calls self.new.calls
+            self.old.planned.items self.new.planned.items }
         ensures inner { self.new.inner ≡ self.old.inner }
         ensures faults { self.new.faults ≡ self.old.faults }
     {
@@ -91,6 +93,8 @@ impl<N: Node + Drop> FaultyNode<N> {
     fn fail(&mut self) -> NodeError
         ensures fault { result ≡ NodeError.Fault }
         ensures inner { self.new.inner ≡ self.old.inner }
+        ensures calls { self.new.calls ≡ self.old.calls }
+        ensures plan { self.new.planned.items ≡ self.old.planned.items }
         ensures rose { (self.old.faults ≤ self.new.faults) × Rose self.old.faults self.new.faults }
     {
         self.faults = self.faults.saturating_add(1);
@@ -104,7 +108,9 @@ impl<N: Node + Drop> FaultyNode<N> {
         answer: Result<A, NodeError>,
     ) -> Result<A, NodeError>
         ensures inner { self.new.inner ≡ self.old.inner }
-        ensures answer { (result ≡ answer) ⊎ (result ≡ Err NodeError.Fault) }
+        ensures calls { self.new.calls ≡ self.old.calls }
+        ensures plan { self.new.planned.items ≡ self.old.planned.items }
+        ensures answer { planned ≡ None → result ≡ answer }
         ensures planned { IsSome planned → result ≡ Err NodeError.Fault }
         ensures cause { NodeHasCause self.old.faults self.new.faults result }
     {
@@ -129,8 +135,10 @@ impl<N: Node + Drop> Node for FaultyNode<N> {
             (N.node self.old.inner) (N.node self.new.inner) }
         ensures known { IfErr result (MayAnswer Create) }
         ensures cause { NodeHasCause self.old.faults self.new.faults result }
-        ensures planned { IsPlanned self.old.planned.items (one_more self.old.calls)
-            → result ≡ Err NodeError.Fault }
+        ensures plan { KeepsPlan N.node_faults (fault_at self.old.planned.items (one_more self.old.calls))
+            self.old.inner self.new.inner result }
+        ensures calls { CountsCall self.old.calls self.new.calls
+            self.old.planned.items self.new.planned.items }
     {
         let planned = self.next();
         if planned == Some(When::Before) {
@@ -152,8 +160,10 @@ impl<N: Node + Drop> Node for FaultyNode<N> {
             (N.node self.old.inner) (N.node self.new.inner) }
         ensures known { IfErr result (MayAnswer Prepare) }
         ensures cause { NodeHasCause self.old.faults self.new.faults result }
-        ensures planned { IsPlanned self.old.planned.items (one_more self.old.calls)
-            → result ≡ Err NodeError.Fault }
+        ensures plan { KeepsPlan N.node_faults (fault_at self.old.planned.items (one_more self.old.calls))
+            self.old.inner self.new.inner result }
+        ensures calls { CountsCall self.old.calls self.new.calls
+            self.old.planned.items self.new.planned.items }
     {
         let planned = self.next();
         if planned == Some(When::Before) {
@@ -175,8 +185,10 @@ impl<N: Node + Drop> Node for FaultyNode<N> {
             (N.node self.old.inner) (N.node self.new.inner) }
         ensures known { IfErr result (MayAnswer Commit) }
         ensures cause { NodeHasCause self.old.faults self.new.faults result }
-        ensures planned { IsPlanned self.old.planned.items (one_more self.old.calls)
-            → result ≡ Err NodeError.Fault }
+        ensures plan { KeepsPlan N.node_faults (fault_at self.old.planned.items (one_more self.old.calls))
+            self.old.inner self.new.inner result }
+        ensures calls { CountsCall self.old.calls self.new.calls
+            self.old.planned.items self.new.planned.items }
     {
         let planned = self.next();
         if planned == Some(When::Before) {
@@ -191,8 +203,10 @@ impl<N: Node + Drop> Node for FaultyNode<N> {
             (N.node self.old.inner) (N.node self.new.inner) }
         ensures known { IfErr result (MayAnswer Abort) }
         ensures cause { NodeHasCause self.old.faults self.new.faults result }
-        ensures planned { IsPlanned self.old.planned.items (one_more self.old.calls)
-            → result ≡ Err NodeError.Fault }
+        ensures plan { KeepsPlan N.node_faults (fault_at self.old.planned.items (one_more self.old.calls))
+            self.old.inner self.new.inner result }
+        ensures calls { CountsCall self.old.calls self.new.calls
+            self.old.planned.items self.new.planned.items }
     {
         let planned = self.next();
         if planned == Some(When::Before) {
@@ -212,8 +226,10 @@ impl<N: Node + Drop> Node for FaultyNode<N> {
             (N.node self.old.inner) (N.node self.new.inner) }
         ensures known { IfErr result (MayAnswer Fence) }
         ensures cause { NodeHasCause self.old.faults self.new.faults result }
-        ensures planned { IsPlanned self.old.planned.items (one_more self.old.calls)
-            → result ≡ Err NodeError.Fault }
+        ensures plan { KeepsPlan N.node_faults (fault_at self.old.planned.items (one_more self.old.calls))
+            self.old.inner self.new.inner result }
+        ensures calls { CountsCall self.old.calls self.new.calls
+            self.old.planned.items self.new.planned.items }
     {
         let planned = self.next();
         if planned == Some(When::Before) {
@@ -228,8 +244,10 @@ impl<N: Node + Drop> Node for FaultyNode<N> {
             (N.node self.old.inner) (N.node self.new.inner) }
         ensures known { IfErr result (MayAnswer Read) }
         ensures cause { NodeHasCause self.old.faults self.new.faults result }
-        ensures planned { IsPlanned self.old.planned.items (one_more self.old.calls)
-            → result ≡ Err NodeError.Fault }
+        ensures plan { KeepsPlan N.node_faults (fault_at self.old.planned.items (one_more self.old.calls))
+            self.old.inner self.new.inner result }
+        ensures calls { CountsCall self.old.calls self.new.calls
+            self.old.planned.items self.new.planned.items }
     {
         let planned = self.next();
         if planned == Some(When::Before) {
@@ -249,8 +267,10 @@ impl<N: Node + Drop> Node for FaultyNode<N> {
             (N.node self.old.inner) (N.node self.new.inner) }
         ensures known { IfErr result (MayAnswer Read) }
         ensures cause { NodeHasCause self.old.faults self.new.faults result }
-        ensures planned { IsPlanned self.old.planned.items (one_more self.old.calls)
-            → result ≡ Err NodeError.Fault }
+        ensures plan { KeepsPlan N.node_faults (fault_at self.old.planned.items (one_more self.old.calls))
+            self.old.inner self.new.inner result }
+        ensures calls { CountsCall self.old.calls self.new.calls
+            self.old.planned.items self.new.planned.items }
     {
         let planned = self.next();
         if planned == Some(When::Before) {
@@ -265,8 +285,10 @@ impl<N: Node + Drop> Node for FaultyNode<N> {
             (N.node self.old.inner) (N.node self.new.inner) }
         ensures known { IfErr result (MayAnswer Read) }
         ensures cause { NodeHasCause self.old.faults self.new.faults result }
-        ensures planned { IsPlanned self.old.planned.items (one_more self.old.calls)
-            → result ≡ Err NodeError.Fault }
+        ensures plan { KeepsPlan N.node_faults (fault_at self.old.planned.items (one_more self.old.calls))
+            self.old.inner self.new.inner result }
+        ensures calls { CountsCall self.old.calls self.new.calls
+            self.old.planned.items self.new.planned.items }
     {
         let planned = self.next();
         if planned == Some(When::Before) {
@@ -288,8 +310,10 @@ impl<N: Node + Drop> Node for FaultyNode<N> {
             (N.node self.old.inner) (N.node self.new.inner) }
         ensures known { IfErr result (MayAnswer Apply) }
         ensures cause { NodeHasCause self.old.faults self.new.faults result }
-        ensures planned { IsPlanned self.old.planned.items (one_more self.old.calls)
-            → result ≡ Err NodeError.Fault }
+        ensures plan { KeepsPlan N.node_faults (fault_at self.old.planned.items (one_more self.old.calls))
+            self.old.inner self.new.inner result }
+        ensures calls { CountsCall self.old.calls self.new.calls
+            self.old.planned.items self.new.planned.items }
     {
         let planned = self.next();
         if planned == Some(When::Before) {
@@ -304,8 +328,10 @@ impl<N: Node + Drop> Node for FaultyNode<N> {
             (N.node self.old.inner) (N.node self.new.inner) }
         ensures known { IfErr result (MayAnswer Remove) }
         ensures cause { NodeHasCause self.old.faults self.new.faults result }
-        ensures planned { IsPlanned self.old.planned.items (one_more self.old.calls)
-            → result ≡ Err NodeError.Fault }
+        ensures plan { KeepsPlan N.node_faults (fault_at self.old.planned.items (one_more self.old.calls))
+            self.old.inner self.new.inner result }
+        ensures calls { CountsCall self.old.calls self.new.calls
+            self.old.planned.items self.new.planned.items }
     {
         let planned = self.next();
         if planned == Some(When::Before) {
@@ -320,8 +346,10 @@ impl<N: Node + Drop> Node for FaultyNode<N> {
             (N.node self.old.inner) (N.node self.new.inner) }
         ensures known { IfErr result (MayAnswer Ask) }
         ensures cause { NodeHasCause self.old.faults self.new.faults result }
-        ensures planned { IsPlanned self.old.planned.items (one_more self.old.calls)
-            → result ≡ Err NodeError.Fault }
+        ensures plan { KeepsPlan N.node_faults (fault_at self.old.planned.items (one_more self.old.calls))
+            self.old.inner self.new.inner result }
+        ensures calls { CountsCall self.old.calls self.new.calls
+            self.old.planned.items self.new.planned.items }
     {
         let planned = self.next();
         if planned == Some(When::Before) {
@@ -336,8 +364,10 @@ impl<N: Node + Drop> Node for FaultyNode<N> {
             (N.node self.old.inner) (N.node self.new.inner) }
         ensures known { IfErr result (MayAnswer Ask) }
         ensures cause { NodeHasCause self.old.faults self.new.faults result }
-        ensures planned { IsPlanned self.old.planned.items (one_more self.old.calls)
-            → result ≡ Err NodeError.Fault }
+        ensures plan { KeepsPlan N.node_faults (fault_at self.old.planned.items (one_more self.old.calls))
+            self.old.inner self.new.inner result }
+        ensures calls { CountsCall self.old.calls self.new.calls
+            self.old.planned.items self.new.planned.items }
     {
         let planned = self.next();
         if planned == Some(When::Before) {

@@ -1,5 +1,4 @@
 mod FenceLemmas
-mod ObjectLemmas
 mod ReachLemmas
 mod RefusalLemmas
 mod SoundLemmas

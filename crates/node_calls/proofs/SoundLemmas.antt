@@ -1,5 +1,5 @@
 -- What holds of each repository of a node, each call keeps.
-use Rattle.std.proofs.Common.{◌≡◌, ◌+◌, ◌<◌, ◌≤◌, ◌==◌, ℕ, max, [], true, false, cond, Bool, Option, Some, None, arith, refl, sym, subst}
+use Rattle.std.proofs.Common.{◌≡◌, ◌+◌, ◌<◌, ◌≤◌, ◌==◌, ℕ, max, List, [], true, false, cond, Bool, Option, Some, None, arith, refl, sym, ◌∙◌, subst}
 use Rattle.std.specs.Prelude.{nat_lt, IfSome}
 use Rattle.std.specs.List.Sorted.{IsStrictlySortedBy}
 use Rattle.std.specs.Map.{values_of}
@@ -7,18 +7,19 @@ use Rattle.std.proofs.lemmas.Bool.{cond-true, lt-ltb, ltb-false}
 use Rattle.std.proofs.lemmas.List.Elements.{All-nil}
 use Rattle.std.proofs.lemmas.Option.{IfSome_then}
 use Rattle.px_base.proofs.Lists.{no_refs}
+use Rattle.px_base.specs.Object.{GitObject}
 use Rattle.px_base.specs.RefList.{IsRefList}
 use Rattle.px_base.specs.declared.hash.Hash.{Hash}
 use Rattle.px_base.specs.declared.push.Push.{Push}
+use Rattle.objstore.proofs.BundleAfter.{IsStore-with_objects, kept_all, object_at-with_objects}
 use Rattle.objstore.specs.Bundle.{bundle_fault, with_objects}
 use Rattle.objstore.specs.Entries.{IsStore, object_at}
 use Rattle.objstore.specs.Reach.{IsClosed, Objects}
 use Rattle.refstore.specs.Hook.{AreUpdates}
 use Rattle.refstore.specs.Updates.{after}
 use Rattle.node_calls.proofs.FenceLemmas.{fence_passed}
-use Rattle.node_calls.proofs.ObjectLemmas.{IsStore-all, has_coming, kept_by_all}
 use Rattle.node_rows.proofs.OptionLemmas.{no_first, no_second}
-use Rattle.node_calls.proofs.ReachLemmas.{IsClosedFrom, all_from_more, closed_by, closed_more}
+use Rattle.node_calls.proofs.ReachLemmas.{HasAll, IsClosedFrom, all_from_more, closed_by, closed_more}
 use Rattle.node_calls.proofs.RefusalLemmas.{objects_come, updates_fit}
 use Rattle.node_calls.proofs.StepLemmas.{Keeps, run_keeps, step_keeps}
 use Rattle.node_calls.proofs.TipLemmas.{all_after}
@@ -48,6 +49,18 @@ nothing_is_sound = record {
   closed = no_tips (object_at []);
   ready = tt;
 }
+
+-- ---- objects come
+
+module _ (place : Place) (objects : List GitObject)
+    (none : bundle_fault place.objects 0 objects ≡ None) where
+  -- what was there is there then
+  has_old : HasAll (object_at place.objects) (object_at (with_objects place.objects objects))
+  has_old q found has = kept_all place.objects 0 objects none found q has
+
+  -- and so is what is there or comes
+  has_coming : HasAll (with_coming place objects) (object_at (with_objects place.objects objects))
+  has_coming q found has = object_at-with_objects place.objects 0 objects none q ∙ has
 
 -- ---- the push that is ready, and the fence
 
@@ -146,9 +159,9 @@ prepares lease push place answer then_ lawful done sound =
         closed = closed_by more (values_of (after place.refs push.updates))
             (all_after (IsClosedFrom more) place.refs push.updates
             (all_from_more (object_at place.objects) more
-            (kept_by_all place.objects 0 push.objects comes) (values_of place.refs) sound.closed)
+            (has_old place push.objects comes) (values_of place.refs) sound.closed)
             (all_from_more (with_coming place push.objects) more
-            (has_coming place.objects 0 push.objects comes) (new_tips push.updates) done.closed));
+            (has_coming place push.objects comes) (new_tips push.updates) done.closed));
       };
     })
 
@@ -177,7 +190,7 @@ commits lease hash place answer then_ done sound =
       last = Some lease;
     })
     (leases place sound) passed
-    (IsStore-all place.objects 0 done.push.objects push.comes sound.store)
+    (IsStore-with_objects place.objects 0 done.push.objects sound.store push.comes)
     (IsRefList-fits place.refs done.push.updates sound.refs
     (name_stands done.push.updates push.updates) push.fits) push.closed)
 
@@ -211,9 +224,9 @@ applies lease given place answer then_ lawful done sound =
       objects = with_objects place.objects given.objects;
     })
     (leases place sound) passed
-    (IsStore-all place.objects 0 given.objects comes sound.store) lawful
+    (IsStore-with_objects place.objects 0 given.objects sound.store comes) lawful
     (closed_more (with_coming place given.objects) more
-    (has_coming place.objects 0 given.objects comes) (values_of given.refs) done.closed))
+    (has_coming place given.objects comes) (values_of given.refs) done.closed))
 
 removes : (lease : ℕ) (place : Place) (answer : Unit {0}) (then_ : Place)
     → Removes lease place answer then_ → Sound place then_

@@ -8,7 +8,6 @@ pub mod ObjectRows
 pub mod OneNode
 pub mod OneRef
 pub mod OptionLemmas
-pub mod Paths
 pub mod ReadBytes
 pub mod ReadHeld
 pub mod ReadObject

@@ -23,7 +23,7 @@ use Rattle.node_rows.proofs.RowLemmas.{Names-back, Names-front, Says, Says-ref, 
 use Rattle.node_rows.specs.Place.{NodeState}
 use Rattle.node_rows.specs.Rows.{under}
 use Rattle.node_rows.specs.Writes.{gone_changes, names, put_changes, ref_change, refs_changes, update_changes}
-use Rattle.node_rows.proofs.Paths.{one_path, paths_laws}
+use Rattle.refstore.proofs.Names.{one_name, names_laws}
 
 none_of : {A : Type 0} (o : Option A) → is_some o ≡ false → o ≡ None
 none_of None t = refl
@@ -117,10 +117,10 @@ updates_rest path Same (update ∷ updates) name kept among =
         (ref_change path update.name (given update) ∷ update_changes path updates))
         (row_key 7 (under path name)) ⊎ Same name
     at true here true same among rest =
-        inr (subst Same (sym (one_path name update.name here)) (kept zero update refl same))
+        inr (subst Same (sym (one_name name update.name here)) (kept zero update refl same))
     at true here false apart among rest =
         inl (inl (row_in-ref path update.name (given update)
-        ∙ ap (λ (q : List ℕ). row_key 7 (under path q)) (sym (one_path name update.name here))))
+        ∙ ap (λ (q : List ℕ). row_key 7 (under path q)) (sym (one_name name update.name here))))
     at false there true same among rest = rest among
     at false there false apart among rest =
         ⊎_elim (λ named. inl (inr named)) (λ same. inr same) (rest among)
@@ -148,7 +148,7 @@ later_at : (first : List ℕ × Hash) (rest some : References)
 later_at first rest [] all above = tt
 later_at first rest (ref ∷ some) all above = (
   cond-false (is_name ref.0 first.0) (Some first.1) (ref_at rest ref.0)
-      (paths_laws.symm ref.0 first.0 ∙ ap is_eq above.0) ∙ all.0,
+      (names_laws.symm ref.0 first.0 ∙ ap is_eq above.0) ∙ all.0,
   later_at first rest some all.1 above.1,
 )
 
@@ -157,7 +157,7 @@ each_at : (refs : References) → Ascends refs
 unfolding IsStrictlySortedBy
 each_at [] ascends = tt
 each_at (ref ∷ refs) ascends = (
-  cond-true (is_name ref.0 ref.0) (Some ref.1) (ref_at refs ref.0) (paths_laws.refl ref.0),
+  cond-true (is_name ref.0 ref.0) (Some ref.1) (ref_at refs ref.0) (names_laws.refl ref.0),
   later_at ref refs refs (each_at refs ascends.1) ascends.0,
 )
 
@@ -184,10 +184,10 @@ module _ (path : List ℕ) where
           (ref_change path ref.0 None ∷ gone_changes path refs old)) (row_key 7 (under path name))
       at true here true stays there rest = absurd (
           let still : is_some (ref_at refs name) ≡ true =
-          ap (λ (q : List ℕ). is_some (ref_at refs q)) (one_path name ref.0 here) ∙ stays in
+          ap (λ (q : List ℕ). is_some (ref_at refs q)) (one_name name ref.0 here) ∙ stays in
           cc)
       at true here false goes there rest =
-          inl (ap (λ (q : List ℕ). row_key 7 (under path q)) (sym (one_path name ref.0 here)))
+          inl (ap (λ (q : List ℕ). row_key 7 (under path q)) (sym (one_name name ref.0 here)))
       at false other true stays there rest = rest there
       at false other false goes there rest = inr (rest there)
 
@@ -211,10 +211,10 @@ module _ (path : List ℕ) where
           let one : ref.1 ≡ id = cc in
           let still : names (ref_at old name) id ≡ true =
           ap (names (ref_at old name)) (sym one)
-          ∙ ap (λ (q : List ℕ). names (ref_at old q) ref.1) (one_path name ref.0 here) ∙ same in
+          ∙ ap (λ (q : List ℕ). names (ref_at old q) ref.1) (one_name name ref.0 here) ∙ same in
           cc)
       at true here false differs has rest =
-          inl (ap (λ (q : List ℕ). row_key 7 (under path q)) (sym (one_path name ref.0 here)))
+          inl (ap (λ (q : List ℕ). row_key 7 (under path q)) (sym (one_name name ref.0 here)))
       at false other true same has rest = rest has
       at false other false differs has rest = inr (rest has)
 

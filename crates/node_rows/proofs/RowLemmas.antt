@@ -18,7 +18,7 @@ use Rattle.node_rows.proofs.KeyLemmas.{IsCut-cut, cut_path}
 use Rattle.node_rows.specs.Place.{NodeState, Place}
 use Rattle.node_rows.specs.Rows.{IsRow, StandFor, cut, is_untouched, object_bytes, object_row, ref_row, replica_bytes, replica_row, row_of, under}
 use Rattle.node_rows.specs.Writes.{object_change, object_gone, ref_change, replica_change}
-use Rattle.node_rows.proofs.Paths.{one_path, paths_laws}
+use Rattle.refstore.proofs.Names.{one_name, names_laws}
 
 -- ---- changes that say what a node has
 
@@ -130,9 +130,9 @@ module _ (new : NodeState) (path : List ℕ) (lawful : IsRepoPath path) where
 pub this_or_other : (old new : NodeState) (path : List ℕ)
     → ((other : List ℕ) → other ≢ path → new other ≡ old other) → (q : List ℕ)
     → (path ≡ q) ⊎ (new q ≡ old q)
-this_or_other old new path others q = ⊎_elim (λ t. inl (one_path path q t))
+this_or_other old new path others q = ⊎_elim (λ t. inl (one_name path q t))
     (λ f. inr (others q (λ same. absurd (
-    let t : is_name path q ≡ true = ap (is_name path) same ∙ paths_laws.refl path in
+    let t : is_name path q ≡ true = ap (is_name path) same ∙ names_laws.refl path in
     cc))))
     (cases_Bool (is_name path q))
 

@@ -14,7 +14,7 @@ use Rattle.node_calls.specs.Ends.{ArePaths}
 use Rattle.px_node.specs.Held.{held_paths}
 use Rattle.node_rows.specs.Place.{Place, nothing}
 use Rattle.px_node.specs.Shelf.{Replicas, place_at}
-use Rattle.node_rows.proofs.Paths.{paths_laws}
+use Rattle.refstore.proofs.Names.{names_laws}
 
 -- the paths ascend
 abbrev pub Ascends : Replicas → Type 0
@@ -54,7 +54,7 @@ not_above : (path q : List ℕ) (paths : List (List ℕ)) → is_name q path ≡
 not_above path q [] same all = refl
 not_above path q (p ∷ paths) same all =
     let apart : is_name q p ≡ false =
-    paths_laws.congr q path p same ∙ ap is_eq all.0 in
+    names_laws.congr q path p same ∙ ap is_eq all.0 in
     rw apart (not_above path q paths same all.1)
 
 -- a path is among them where it is held

@@ -5,7 +5,7 @@ use Rattle.std.specs.Option.{IsSome, is_some, unwrap_or}
 use Rattle.px_base.specs.RefList.{is_name}
 use Rattle.px_base.specs.RepoPath.{IsRepoPath}
 use Rattle.node_rows.proofs.LawfulPlaces.{IsLawfulPlace-said}
-use Rattle.node_rows.proofs.Paths.{one_path}
+use Rattle.refstore.proofs.Names.{one_name}
 use Rattle.node_rows.proofs.RowLemmas.{this_or_other}
 use Rattle.node_rows.specs.Lawful.{IsLawful, IsLawfulPlace}
 use Rattle.node_rows.specs.Place.{Changes, Place, nothing}
@@ -37,7 +37,7 @@ AreLawful-put old new path place puts lawful_path lawful were = record {
 
     at : (q : List ℕ) (b : Bool) → is_name path q ≡ b
         → IsSome (cond b (Some place) (lookup (is_name q) old)) → IsRepoPath q
-    at q true here there = subst IsRepoPath (one_path path q here) lawful_path
+    at q true here there = subst IsRepoPath (one_name path q here) lawful_path
     at q false other there = were.paths q there
 
 -- and once one that was there was changed to such a one

@@ -9,7 +9,7 @@ use Rattle.px_base.specs.declared.hash.Hash.{Hash}
 use Rattle.node_replica.specs.Effects.{CommitsAt, DoesReady}
 use Rattle.node_rows.specs.Place.{Changes, Place, Same, nothing}
 use Rattle.px_node.specs.Shelf.{Puts, Replicas, place_at}
-use Rattle.node_rows.proofs.Paths.{one_path, other_path, paths_laws}
+use Rattle.refstore.proofs.Names.{one_name, other_name, names_laws}
 
 -- what was put under a path, the node has
 pub Changes-put : (old new : Replicas) (path : List ℕ) (place : Place) → Puts old new path place
@@ -17,17 +17,17 @@ pub Changes-put : (old new : Replicas) (path : List ℕ) (place : Place) → Put
 Changes-put old new path place puts = record {
   here = ap (λ (o : Option Place). unwrap_or o nothing) (puts path
       ∙ cond-true (is_name path path) (Some place) (lookup (is_name path) old)
-      (paths_laws.refl path));
+      (names_laws.refl path));
   others = λ q differs. ap (λ (o : Option Place). unwrap_or o nothing) (puts q
       ∙ cond-false (is_name path q) (Some place) (lookup (is_name q) old)
-      (other_path path q differs));
+      (other_name path q differs));
 }
 
 -- there is room for it
 pub IsSome-put : (old new : Replicas) (path : List ℕ) (place : Place) → Puts old new path place
     → IsSome (lookup (is_name path) new)
 IsSome-put old new path place puts = ap is_some (puts path
-    ∙ cond-true (is_name path path) (Some place) (lookup (is_name path) old) (paths_laws.refl path))
+    ∙ cond-true (is_name path path) (Some place) (lookup (is_name path) old) (names_laws.refl path))
 
 -- nothing put where there was nothing changes nothing
 pub Same-put : (old new : Replicas) (path : List ℕ) → lookup (is_name path) old ≡ None
@@ -36,7 +36,7 @@ Same-put old new path none puts q = ⊎_elim
     (λ t. ap (λ (o : Option Place). unwrap_or o nothing) (puts q
     ∙ cond-true (is_name path q) (Some nothing) (lookup (is_name q) old) t)
     ∙ ap (λ (o : Option Place). unwrap_or o nothing)
-    (sym (subst (λ (p : List ℕ). lookup (is_name p) old ≡ None) (one_path path q t) none)))
+    (sym (subst (λ (p : List ℕ). lookup (is_name p) old ≡ None) (one_name path q t) none)))
     (λ f. ap (λ (o : Option Place). unwrap_or o nothing) (puts q
     ∙ cond-false (is_name path q) (Some nothing) (lookup (is_name q) old) f))
     (cases_Bool (is_name path q))
@@ -72,10 +72,10 @@ Same-Changes : (old new : Replicas) (path : List ℕ)
     → Changes (place_at old) (place_at new) path (place_at old path)
     → Same (place_at old) (place_at new)
 Same-Changes old new path changes q = ⊎_elim
-    (λ t. subst (λ (p : List ℕ). place_at new p ≡ place_at old p) (one_path path q t) changes.here)
+    (λ t. subst (λ (p : List ℕ). place_at new p ≡ place_at old p) (one_name path q t) changes.here)
     (λ f. changes.others q (λ e. absurd (
     let t : is_name path q ≡ true =
-    ap (is_name path) e ∙ paths_laws.refl path in
+    ap (is_name path) e ∙ names_laws.refl path in
     cc)))
     (cases_Bool (is_name path q))
 

@@ -125,7 +125,8 @@ impl Replica {
         }
     }
 
-    /// Takes over a reference that a row tells.
+    /// Takes over a reference that a row tells. It is a bad row where the repository is not held, or
+    /// where `Refs::create` refuses the reference.
     pub fn take_ref(&mut self, alloc: Global, name: RefName, id: ObjectId) -> Result<(), NotTaken>
         requires unready { self.old.ready ≡ None }
         requires hash { IsHash id }
@@ -143,7 +144,8 @@ impl Replica {
         }
     }
 
-    /// Takes over an object that a row tells under an id.
+    /// Takes over an object that a row tells under an id. It is a bad row where the repository is not
+    /// held, and where the object has another name, breaks the form of its kind or is there already.
     pub fn take_object(
         &mut self,
         alloc: Global,
@@ -174,7 +176,7 @@ impl Replica {
         }
     }
 
-    /// Whether the lease is not below the fence.
+    /// Whether the lease is not below the fence; `Fenced` where it is.
     pub fn admits(&self, lease: Lease) -> Result<(), NodeError>
         ensures { Tests (fenced lease self.now) result }
     {
@@ -185,7 +187,7 @@ impl Replica {
         Ok(())
     }
 
-    /// Whether it is held.
+    /// Whether it is held; `NoRepo` where it is not.
     pub fn is_held(&self) -> Result<(), NodeError>
         ensures { Tests (not_held self.now) result }
     {
@@ -195,7 +197,8 @@ impl Replica {
         Ok(())
     }
 
-    /// Whether it may be created.
+    /// Whether it may be created; `Fenced` where the lease is below the fence, else `RepoExists` where
+    /// it is held with references.
     pub fn may_create(&self, lease: Lease) -> Result<(), NodeError>
         ensures { Tests (create_refusal lease self.now) result }
     {
@@ -206,7 +209,8 @@ impl Replica {
         Ok(())
     }
 
-    /// Whether its ready push may be dropped.
+    /// Whether its ready push may be dropped; `Fenced` where the lease is below the fence, else
+    /// `NoRepo` where it is not held.
     pub fn may_abort(&self, lease: Lease) -> Result<(), NodeError>
         ensures { Tests (abort_refusal lease self.now) result }
     {
@@ -214,7 +218,12 @@ impl Replica {
         self.is_held()
     }
 
-    /// The push, ready to be done, where it may be.
+    /// The push, ready to be done.
+    ///
+    /// Refused, as `Node::prepare` is, with the first that holds: `Fenced`; `NoRepo`; `BadObject` or
+    /// `Collision` for an object of the push; a refusal of its updates; `Missing`, for the first object
+    /// that what they give to names leads to, and that is neither here nor in the push. `Memory`, where
+    /// memory wants.
     pub fn prepared(&self, alloc: Global, lease: Lease, push: &Push) -> Result<Ready, NodeError>
         ensures ok { IfOk result (IsPrepared lease push.now self.now) }
         ensures err { IfErr result (IsNotPrepared lease push.now self.now) }
@@ -315,6 +324,9 @@ impl Replica {
     }
 
     /// Whether its ready push may be done.
+    ///
+    /// Refused with the first that holds: `Fenced`; `NoRepo`; `NotPrepared`, where no push of this lease
+    /// is ready; `VoteDiffers`, where that push has another vote than the hash.
     pub fn may_commit(&self, lease: Lease, hash: &Hash) -> Result<(), NodeError>
         ensures { Tests (commit_refusal lease hash.now self.now) result }
     {
@@ -330,7 +342,8 @@ impl Replica {
         Ok(())
     }
 
-    /// Does its ready push, once the keeper has kept the rows that this changes.
+    /// Does its ready push, once the keeper has kept the rows that this changes. After `Fault`, which
+    /// comes where the keeper's count rose, and after `Memory` nothing has changed.
     pub fn commit<K: Keeper>(
         &mut self,
         alloc: Global,
@@ -365,6 +378,10 @@ impl Replica {
     }
 
     /// The references of a snapshot, where it may be applied.
+    ///
+    /// Refused with the first that holds: `Fenced`; `BadObject` or `Collision`, for an object of the
+    /// snapshot; `Missing`, for the first object that its references lead to, and that neither has.
+    /// `Memory`, where memory wants.
     pub fn may_apply(
         &self,
         alloc: Global,
@@ -392,7 +409,8 @@ impl Replica {
     }
 
     /// Takes the references and the objects of a snapshot, once the keeper has kept the rows that this
-    /// changes.
+    /// changes. After `Fault`, which comes where the keeper's count rose, and after `Memory` nothing has
+    /// changed.
     pub fn apply<K: Keeper>(
         &mut self,
         alloc: Global,
@@ -423,7 +441,7 @@ impl Replica {
         Ok(())
     }
 
-    /// Its references, where it is held.
+    /// Its references; `NoRepo` where it is not held, `Memory` where memory wants.
     pub fn refs(&self, alloc: Global) -> Result<RefList, NodeError>
         ensures { Reads HasRefs self.now result }
     {
@@ -431,7 +449,8 @@ impl Replica {
         Ok(self.refs.list(alloc)?)
     }
 
-    /// A copy of its object of that id, where it is held.
+    /// A copy of its object of that id, if there is one; `NoRepo` where it is not held, `Memory` where
+    /// memory wants.
     pub fn object(&self, alloc: Global, id: &ObjectId) -> Result<Option<Object>, NodeError>
         ensures { Reads (HasObject id.now) self.now result }
     {
@@ -442,7 +461,8 @@ impl Replica {
         }
     }
 
-    /// Its references, and the objects that the walk from them takes, where it is held.
+    /// Its references, and the objects that the walk from them takes; `NoRepo` where it is not held,
+    /// `Memory` where memory wants.
     pub fn snapshot(&self, alloc: Global) -> Result<Snapshot, NodeError>
         ensures { Reads IsSnapshot self.now result }
     {

@@ -2,9 +2,9 @@
 //! reachable from the last one is there, as many times as TURNS says. What a run takes with no turns
 //! is what the putting takes.
 
-use crate::end::{End, number};
+use crate::end::{End, number, print};
 use objstore::{ClosedFault, PutFault, Store, name_of};
-use px_base::{Bytes, Kind, Object, ObjectId, Sink, WrittenEnd, write_all};
+use px_base::{Bytes, Kind, Object, ObjectId, Sink};
 use std::alloc::Global;
 
 // Puts an object, and gives its name.
@@ -60,10 +60,7 @@ fn tell<O: Sink>(
             Err(ClosedFault::Missing(_)) => b"missing\n",
             Err(ClosedFault::Memory) => return Err(End::Memory),
         };
-        match write_all(out, line) {
-            WrittenEnd::All => {}
-            WrittenEnd::Failed => return Err(End::WriteFault),
-        }
+        print(out, line)?;
     }
     Ok(())
 }

@@ -1,5 +1,6 @@
-//! Why a run did not end well, and the numbers among its words.
+//! Why a run did not end well, the numbers among its words, and what it prints.
 
+use px_base::{Sink, WrittenEnd, write_all};
 use std::alloc::AllocError;
 
 /// Why a run did not end well.
@@ -51,4 +52,12 @@ impl From<AllocError> for End {
 /// The number that a word is.
 pub fn number(word: &str) -> Result<u32, End> {
     word.parse::<u32>().map_err(|_| End::Usage)
+}
+
+/// Writes all of the text.
+pub fn print<O: Sink>(out: &mut O, text: &[u8]) -> Result<(), End> {
+    match write_all(out, text) {
+        WrittenEnd::All => Ok(()),
+        WrittenEnd::Failed => Err(End::WriteFault),
+    }
 }

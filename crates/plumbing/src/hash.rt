@@ -1,9 +1,9 @@
 //! `hash N`: names an object of 8,000,000 bytes N times, and prints the last name. Each time its
 //! first byte is another, so that no two are one object.
 
-use crate::end::{End, number};
+use crate::end::{End, number, print};
 use object_format::name_of;
-use px_base::{Bytes, Hash, Kind, Sink, WrittenEnd, write_all};
+use px_base::{Bytes, Hash, Kind, Sink};
 use std::alloc::Global;
 
 const CONTENT_BYTES: usize = 8_000_000;
@@ -26,8 +26,5 @@ pub fn hash<O: Sink>(alloc: Global, count: &str, out: &mut O) -> Result<(), End>
     }
     let mut line = Bytes::from_slice(alloc, &name.text())?;
     line.push(b'\n')?;
-    match write_all(out, line.as_slice()) {
-        WrittenEnd::All => Ok(()),
-        WrittenEnd::Failed => Err(End::WriteFault),
-    }
+    print(out, line.as_slice())
 }

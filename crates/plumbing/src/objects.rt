@@ -2,9 +2,9 @@
 //! a line for each: its name, and then ` bad AT` where its form is broken, or else its links, with a
 //! space before each.
 
-use crate::end::End;
+use crate::end::{End, print};
 use object_format::{LinkFault, links, name_of};
-use px_base::{Bytes, Ids, Kind, LineEnd, ReadEnd, Sink, Source, WrittenEnd, line, write_all};
+use px_base::{Bytes, Ids, Kind, LineEnd, ReadEnd, Sink, Source, line};
 use std::alloc::Global;
 
 /// More than the longest first line of an object takes.
@@ -105,10 +105,7 @@ pub fn objects<S: Source, O: Sink>(alloc: Global, input: &mut S, out: &mut O) ->
             return Ok(());
         };
         let text = line_of(alloc, kind, &content)?;
-        match write_all(out, text.as_slice()) {
-            WrittenEnd::All => {}
-            WrittenEnd::Failed => return Err(End::WriteFault),
-        }
+        print(out, text.as_slice())?;
     }
     Ok(())
 }

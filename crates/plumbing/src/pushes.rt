@@ -3,8 +3,8 @@
 //! so with ten pushes for each repository, and then opens a node over what the keeper has, as many
 //! times as TURNS says. Each prints how many repositories the last node holds.
 
-use crate::end::{End, number};
-use crate::references::{name_of, print};
+use crate::end::{End, number, print};
+use crate::references::name_of;
 use px_base::{
     Bytes, Hash, Kind, Lease, NameFault, Object, Objects, Push, RepoPath, Sink, Update, Updates,
 };

@@ -3,11 +3,8 @@
 //! N creations on no references, or one update on N references, and print how many there are then, as many
 //! times as TURNS says.
 
-use crate::end::{End, number};
-use px_base::{
-    Bytes, Hash, LineEnd, NameFault, RefName, Sink, Source, Update, Updates, WrittenEnd, line,
-    write_all,
-};
+use crate::end::{End, number, print};
+use px_base::{Bytes, Hash, LineEnd, NameFault, RefName, Sink, Source, Update, Updates, line};
 use refstore::{Prepared, RefRefusal, Refs, hook_text, vote_of};
 use std::alloc::Global;
 
@@ -55,14 +52,6 @@ fn updates<S: Source>(alloc: Global, input: &mut S) -> Result<Updates, End> {
         }
     }
     Ok(updates)
-}
-
-/// Writes all of the text.
-pub fn print<O: Sink>(out: &mut O, text: &[u8]) -> Result<(), End> {
-    match write_all(out, text) {
-        WrittenEnd::All => Ok(()),
-        WrittenEnd::Failed => Err(End::WriteFault),
-    }
 }
 
 /// Prints the hook text of the push.

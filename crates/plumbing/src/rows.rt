@@ -3,8 +3,8 @@
 //! each map, and prints a line for it: `ok`, or `bad TABLE KEY` with the first row that a node may
 //! not have.
 
-use crate::end::End;
-use crate::references::{field, print};
+use crate::end::{End, print};
+use crate::references::field;
 use px_base::{LineEnd, Sink, Source, line};
 use px_keeper::{Batch, KeepFault, Keeper, MemKeeper};
 use px_node::{OpenFault, Shelf};

@@ -2,20 +2,21 @@
 
 use px_base::{Hash, Lease, Object, PathList, RefList};
 use px_node::{NodeError, NodeRefusal, Snapshot};
-use std::alloc::Global;
+use std::alloc::{AllocError, Global};
 use std::test::Fail;
 
-// A hash by the word that calls have for it, or by its first digits: those of the other votes of the
-// tests are known.
+// A hash by the word that calls have for it. The other votes of the tests, which are by sha1sum, go by
+// their first digits.
 fn word(hash: &Hash) -> &'static str {
-    match &hash.text()[..4] {
-        b"e69d" => "blob",
-        b"4b82" => "tree",
-        b"486a" => "vote",
-        b"0000" => "none",
-        b"818c" => "818c",
-        b"32ac" => "32ac",
-        b"9062" => "9062",
+    let text = hash.text();
+    match str::from_utf8(&text).unwrap_or("") {
+        "e69de29bb2d1d6434b8b29ae775ad8c2e48c5391" => "blob",
+        "4b825dc642cb6eb9a060e54bf8d69288fbee4904" => "tree",
+        "486a01e01b4248b74452b5a140fb221f9033e770" => "vote",
+        "0000000000000000000000000000000000000000" => "none",
+        "818c02ab7f981a46980c835a06b95bcfc34cdc3c" => "818c",
+        "32ac3d79786574ba4884a5e481722a2c04419b8c" => "32ac",
+        "906285863665dfcf67ec7159fa7b89dc8cdc0b3b" => "9062",
         _ => "?",
     }
 }
@@ -86,14 +87,21 @@ pub fn last(alloc: Global, last: Option<Lease>) -> Result<String, Fail> {
     }
 }
 
+/// Adds a word to a text, with a space between them.
+pub fn add(text: &mut String, word: &str) -> Result<(), AllocError> {
+    if !text.is_empty() {
+        text.push_str(" ")?;
+    }
+    text.push_str(word)
+}
+
 /// References, each as NAME=OBJECT.
 pub fn references(alloc: Global, refs: &RefList) -> Result<String, Fail> {
     let mut text = String::new(alloc);
     for (name, id) in refs.as_slice() {
-        text.push_str(str::from_utf8(name.as_bytes()).unwrap_or("?"))?;
+        add(&mut text, str::from_utf8(name.as_bytes()).unwrap_or("?"))?;
         text.push_str("=")?;
         text.push_str(word(id))?;
-        text.push_str(" ")?;
     }
     Ok(text)
 }
@@ -109,15 +117,14 @@ pub fn object(alloc: Global, object: &Option<Object>) -> Result<String, Fail> {
 /// References, and the number of the objects behind them.
 pub fn snapshot(alloc: Global, snapshot: &Snapshot) -> Result<String, Fail> {
     let refs = references(alloc, &snapshot.refs)?;
-    Ok(format!(in alloc; "{refs}and {}", snapshot.objects.len())?)
+    Ok(format!(in alloc; "{refs} and {}", snapshot.objects.len())?)
 }
 
 /// The paths of repositories.
 pub fn paths(alloc: Global, paths: &PathList) -> Result<String, Fail> {
     let mut text = String::new(alloc);
     for path in paths.as_slice() {
-        text.push_str(str::from_utf8(path.as_bytes()).unwrap_or("?"))?;
-        text.push_str(" ")?;
+        add(&mut text, str::from_utf8(path.as_bytes()).unwrap_or("?"))?;
     }
     Ok(text)
 }

@@ -27,17 +27,25 @@ pub fn answer<N: Node>(alloc: Global, node: &mut N, call: &str) -> Result<String
 
 /// Fails where a call is answered otherwise than wanted.
 pub fn compare(call: &str, told: &str, want: &str) -> Result<(), Fail> {
-    if told.trim() == want.trim() {
+    if told == want {
         return Ok(());
     }
     Err(Fail::new(format_args!("{call} is answered: {told}")))
 }
 
+/// The call of a line of a table, and the answer that is wanted, which stands behind ` ->` and a space.
+pub fn parts(line: &str) -> Result<(&str, &str), Fail> {
+    match line.trim_start().split_once(" ->") {
+        Some((call, want)) => Ok((call, want.strip_prefix(" ").unwrap_or(want))),
+        None => Err(Fail::new("a line has no answer")),
+    }
+}
+
 /// Makes the calls of a table to a node, and fails at the first one that is answered otherwise than
-/// its line says. A line is a call and, after `->`, the answer that is wanted.
+/// its line says.
 pub fn play<N: Node>(alloc: Global, node: &mut N, table: &str) -> Result<(), Fail> {
     for line in table.lines() {
-        let (call, want) = line.split_once("->").unwrap_or((line, ""));
+        let (call, want) = parts(line)?;
         let told = answer(alloc, node, call)?;
         compare(call, told.as_str(), want)?;
     }

@@ -1,6 +1,7 @@
 //! The keeper in memory.
 
-use crate::calls::compare;
+use crate::answers::add;
+use crate::calls::{compare, parts};
 use px_base::Bytes;
 use px_keeper::{Batch, KeepFault, Keeper, MemKeeper};
 use std::alloc::{AllocError, Global};
@@ -10,7 +11,7 @@ use std::test::Fail;
 fn row(alloc: Global, table: u8, key: &Bytes, value: &Bytes) -> Result<String, AllocError> {
     let key = hex::encode(alloc, key.as_slice())?;
     let value = hex::encode(alloc, value.as_slice())?;
-    format!(in alloc; "{table} {key}={value} ")
+    format!(in alloc; "{table} {key}={value}")
 }
 
 /// All rows of the tables 6 to 8, in order, up to a scan that fails.
@@ -23,13 +24,13 @@ pub fn rows<K: Keeper>(alloc: Global, keeper: &mut K) -> Result<String, AllocErr
             let from = if first { None } else { Some(after.as_slice()) };
             match keeper.scan(alloc, table, from) {
                 Ok(Some((key, value))) => {
-                    shown.push_str(row(alloc, table, &key, &value)?.as_str())?;
+                    add(&mut shown, row(alloc, table, &key, &value)?.as_str())?;
                     after = key;
                     first = false;
                 }
                 Ok(None) => break,
                 Err(_) => {
-                    shown.push_str("a scan failed")?;
+                    add(&mut shown, "a scan failed")?;
                     return Ok(shown);
                 }
             }
@@ -52,13 +53,15 @@ fn batch(alloc: Global, words: &str) -> Result<Batch, AllocError> {
     Ok(batch)
 }
 
-fn commit(alloc: Global, keeper: &mut MemKeeper, words: &str) -> Result<&'static str, AllocError> {
+// The length of a batch, and what committing it comes to.
+fn commit(alloc: Global, keeper: &mut MemKeeper, words: &str) -> Result<String, AllocError> {
     let batch = batch(alloc, words)?;
-    Ok(match keeper.commit(&batch) {
+    let word = match keeper.commit(&batch) {
         Ok(()) => "ok",
         Err(KeepFault::Failed) => "failed",
         Err(KeepFault::Memory) => "memory",
-    })
+    };
+    format!(in alloc; "{} {word}", batch.len())
 }
 
 // The value of a row, given as a digit for the table and a letter for the key.
@@ -75,11 +78,13 @@ fn get(alloc: Global, keeper: &mut MemKeeper, row: &str) -> Result<String, Alloc
 
 // What a keeper answers to a call.
 fn answer(alloc: Global, keeper: &mut MemKeeper, call: &str) -> Result<String, AllocError> {
-    match call.split_once(" ") {
-        Some(("commit", words)) => String::from_str(alloc, commit(alloc, keeper, words)?),
-        Some(("get", row)) => get(alloc, keeper, row.trim()),
-        Some(("faults", _)) => format!(in alloc; "{}", keeper.faults()),
-        _ => rows(alloc, keeper),
+    let (name, words) = call.split_once(" ").unwrap_or((call, ""));
+    match name {
+        "commit" => commit(alloc, keeper, words),
+        "get" => get(alloc, keeper, words),
+        "faults" => format!(in alloc; "{}", keeper.faults()),
+        "rows" => rows(alloc, keeper),
+        _ => String::from_str(alloc, "no such call"),
     }
 }
 
@@ -87,20 +92,20 @@ fn answer(alloc: Global, keeper: &mut MemKeeper, call: &str) -> Result<String, A
 fn play_at_first(alloc: Global, failing: &[u64], table: &str) -> Result<(), Fail> {
     let mut keeper = MemKeeper::new(alloc, Vec::from_slice(alloc, failing)?);
     for line in table.lines() {
-        let (call, want) = line.split_once("->").unwrap_or((line, ""));
-        let told = answer(alloc, &mut keeper, call.trim_start())?;
+        let (call, want) = parts(line)?;
+        let told = answer(alloc, &mut keeper, call)?;
         compare(call, told.as_str(), want)?;
     }
     Ok(())
 }
 
 const WHOLE: &str = "\
-    commit 7b1 7a2 6c3 7b4 8d5 8d- 6x- -> ok
+    commit 7b1 7a2 6c3 7b4 8d5 8d- 6x- -> 7 ok
     rows -> 6 63=33 7 61=32 7 62=34
     get 7b -> 34
     get 8d -> none
-    commit -> ok
-    faults of it -> 0";
+    commit -> 0 ok
+    faults -> 0";
 
 #[test]
 fn a_batch_is_kept_whole_and_in_order(rt: HostRuntime) -> Result<(), Fail> {
@@ -108,11 +113,11 @@ fn a_batch_is_kept_whole_and_in_order(rt: HostRuntime) -> Result<(), Fail> {
 }
 
 const FAILING: &str = "\
-    commit 6a1 -> ok
-    commit 6b2 6a- -> failed
+    commit 6a1 -> 1 ok
+    commit 6b2 6a- -> 2 failed
     get 6a -> failed
     rows -> a scan failed
-    faults of it -> 3
+    faults -> 3
     rows -> 6 61=31";
 
 #[test]

@@ -59,7 +59,7 @@ fn a_push_that_was_ready_is_lost_and_one_that_was_done_stays(rt: HostRuntime) ->
 // reference refs/tags/empty names the empty blob, and that is there.
 const GOOD: &str = "6 782e676974=000000000000000301000000000000000201 \
     7 782e67697400726566732f746167732f656d707479=e69de29bb2d1d6434b8b29ae775ad8c2e48c5391 \
-    8 782e67697400e69de29bb2d1d6434b8b29ae775ad8c2e48c5391=03 ";
+    8 782e67697400e69de29bb2d1d6434b8b29ae775ad8c2e48c5391=03";
 
 // Adds that the rows are put that a text has, each as `TABLE KEY=VALUE`, key and value in
 // hexadecimal.

@@ -9,13 +9,14 @@ use std::test::Fail;
 /// An object by a word: the empty blob, the empty tree, the vote on the first push of the tests, or
 /// zeros.
 pub fn hash(word: &str) -> Result<Hash, Fail> {
-    let text: &[u8] = match word {
-        "blob" => b"e69de29bb2d1d6434b8b29ae775ad8c2e48c5391",
-        "tree" => b"4b825dc642cb6eb9a060e54bf8d69288fbee4904",
-        "vote" => b"486a01e01b4248b74452b5a140fb221f9033e770",
-        _ => b"0000000000000000000000000000000000000000",
+    let text = match word {
+        "blob" => "e69de29bb2d1d6434b8b29ae775ad8c2e48c5391",
+        "tree" => "4b825dc642cb6eb9a060e54bf8d69288fbee4904",
+        "vote" => "486a01e01b4248b74452b5a140fb221f9033e770",
+        "none" => "0000000000000000000000000000000000000000",
+        _ => "",
     };
-    match Hash::read(text) {
+    match Hash::read(text.as_bytes()) {
         Some(hash) => Ok(hash),
         None => Err(Fail::new("no hash")),
     }

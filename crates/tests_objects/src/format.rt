@@ -12,11 +12,13 @@ use px_base::{Kind, ObjectId};
 use std::alloc::Global;
 use std::test::Fail;
 
-// The names, each after a space.
+// The names, with spaces between them.
 fn joined(alloc: Global, ids: &[ObjectId]) -> Result<String, Fail> {
     let mut text = String::new(alloc);
     for id in ids {
-        text.push_str(" ")?;
+        if !text.is_empty() {
+            text.push_str(" ")?;
+        }
         text.push_str(str::from_utf8(&id.text()).unwrap_or("?"))?;
     }
     Ok(text)

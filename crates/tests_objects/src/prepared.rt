@@ -12,24 +12,29 @@ fn text(name: &RefName) -> &str {
 }
 
 fn told(alloc: Global, refusal: &RefRefusal) -> Result<String, Fail> {
-    let (word, first, second) = match refusal {
-        RefRefusal::Empty => ("empty", "", ""),
-        RefRefusal::Void { name } => ("void", text(name), ""),
-        RefRefusal::Twice { name } => ("twice", text(name), ""),
-        RefRefusal::Stale { name, have } => ("stale", text(name), letter(have)),
-        RefRefusal::Conflict { name, with } => ("conflict", text(name), text(with)),
-        RefRefusal::TooManyRefs => ("too many", "", ""),
-        RefRefusal::Memory => ("memory", "", ""),
-    };
-    Ok(format!(in alloc; "{word} {first} {second}")?)
+    Ok(match refusal {
+        RefRefusal::Empty => String::from_str(alloc, "empty")?,
+        RefRefusal::Void { name } => format!(in alloc; "void {}", text(name))?,
+        RefRefusal::Twice { name } => format!(in alloc; "twice {}", text(name))?,
+        RefRefusal::Stale { name, have } => {
+            format!(in alloc; "stale {} {}", text(name), letter(have))?
+        }
+        RefRefusal::Conflict { name, with } => {
+            format!(in alloc; "conflict {} {}", text(name), text(with))?
+        }
+        RefRefusal::TooManyRefs => String::from_str(alloc, "too many")?,
+        RefRefusal::Memory => String::from_str(alloc, "memory")?,
+    })
 }
 
 // Adds a reference to a text, as its object and its name.
 fn show(shown: &mut String, name: &RefName, id: &Hash) -> Result<(), AllocError> {
+    if !shown.is_empty() {
+        shown.push_str(" ")?;
+    }
     shown.push_str(letter(id))?;
     shown.push_str(" ")?;
-    shown.push_str(text(name))?;
-    shown.push_str(" ")
+    shown.push_str(text(name))
 }
 
 // All references.
@@ -68,7 +73,8 @@ fn abort(alloc: Global, refs: &Refs, list: &str) -> Result<String, Fail> {
 // object and the name.
 fn create(alloc: Global, refs: &mut Refs, text: &str) -> Result<String, Fail> {
     let (word, name) = text.split_once(" ").unwrap_or((text, ""));
-    match refs.create(alloc, RefName::read(alloc, name.as_bytes())?, object(word)) {
+    let id = object(word)?;
+    match refs.create(alloc, RefName::read(alloc, name.as_bytes())?, id) {
         Ok(()) => shown(alloc, refs),
         Err(refusal) => told(alloc, &refusal),
     }

@@ -20,7 +20,7 @@ fn id(alloc: Global, word: &str) -> Result<ObjectId, Fail> {
     match word {
         "COMMIT" => Ok(name_of(Kind::Commit, &content(alloc, COMMIT)?)),
         "other" => Ok(Hash([1; 20])),
-        _ => Ok(object(word)),
+        _ => object(word),
     }
 }
 
@@ -64,12 +64,11 @@ fn ids(alloc: Global, words: &str) -> Result<Vec<ObjectId>, Fail> {
 // Whether all that the words lead to is there, or what is missing.
 fn closed(alloc: Global, stores: &Stores, words: &str) -> Result<String, Fail> {
     let tips = ids(alloc, words)?;
-    let (word, id) = match stores.store.closed(alloc, &tips, &stores.extra) {
-        Ok(()) => ("ok", ""),
-        Err(ClosedFault::Missing(id)) => ("missing", letter(&id)),
-        Err(ClosedFault::Memory) => ("memory", ""),
-    };
-    Ok(format!(in alloc; "{word} {id}")?)
+    match stores.store.closed(alloc, &tips, &stores.extra) {
+        Ok(()) => Ok(String::from_str(alloc, "ok")?),
+        Err(ClosedFault::Missing(id)) => Ok(format!(in alloc; "missing {}", letter(&id))?),
+        Err(ClosedFault::Memory) => Ok(String::from_str(alloc, "memory")?),
+    }
 }
 
 // A store, and the extra one.

@@ -5,21 +5,27 @@ use std::alloc::{AllocError, Global};
 use std::test::Fail;
 
 /// The empty blob, the empty tree, or the zero name.
-pub fn object(word: &str) -> Hash {
-    let text: &[u8] = match word {
-        "B" => b"e69de29bb2d1d6434b8b29ae775ad8c2e48c5391",
-        "T" => b"4b825dc642cb6eb9a060e54bf8d69288fbee4904",
-        _ => b"",
+pub fn object(word: &str) -> Result<Hash, Fail> {
+    let text = match word {
+        "B" => "e69de29bb2d1d6434b8b29ae775ad8c2e48c5391",
+        "T" => "4b825dc642cb6eb9a060e54bf8d69288fbee4904",
+        "0" => return Ok(Hash::zero()),
+        _ => "",
     };
-    Hash::read(text).unwrap_or(Hash::zero())
+    match Hash::read(text.as_bytes()) {
+        Some(id) => Ok(id),
+        None => Err(Fail::new("no object")),
+    }
 }
 
 /// The word of one of the three.
 pub fn letter(id: &Hash) -> &'static str {
-    match id.0 {
-        [0xe6, ..] => "B",
-        [0x4b, ..] => "T",
-        _ => "0",
+    let text = id.text();
+    match str::from_utf8(&text).unwrap_or("") {
+        "e69de29bb2d1d6434b8b29ae775ad8c2e48c5391" => "B",
+        "4b825dc642cb6eb9a060e54bf8d69288fbee4904" => "T",
+        "0000000000000000000000000000000000000000" => "0",
+        _ => "?",
     }
 }
 
@@ -60,8 +66,8 @@ pub fn content(alloc: Global, text: &str) -> Result<Vec<u8>, AllocError> {
 /// An update by its old object, its new one and its name.
 pub fn update(alloc: Global, text: &str) -> Result<Update, Fail> {
     let mut words = text.split_whitespace();
-    let old = object(words.next().unwrap_or(""));
-    let new = object(words.next().unwrap_or(""));
+    let old = object(words.next().unwrap_or(""))?;
+    let new = object(words.next().unwrap_or(""))?;
     let name = RefName::read(alloc, words.next().unwrap_or("").as_bytes())?;
     Ok(Update { old, new, name })
 }

@@ -11,7 +11,7 @@ pub trait Answers {
 
 // Fails where a call is answered otherwise than wanted.
 fn compare(call: &str, told: &str, want: &str) -> Result<(), Fail> {
-    if told.trim() == want.trim() {
+    if told == want {
         return Ok(());
     }
     Err(Fail::new(format_args!("{call} is answered: {told}")))
@@ -21,7 +21,9 @@ fn compare(call: &str, told: &str, want: &str) -> Result<(), Fail> {
 /// says. A line is a call and, after `->`, the answer that is wanted.
 pub fn play<A: Answers>(alloc: Global, subject: &mut A, table: &str) -> Result<(), Fail> {
     for line in table.lines() {
-        let (call, want) = line.trim_start().split_once("->").unwrap_or((line, ""));
+        let Some((call, want)) = line.trim_start().split_once("->") else {
+            return Err(Fail::new("a line has no answer"));
+        };
         let (name, rest) = call.split_once(" ").unwrap_or((call, ""));
         let told = subject.answer(alloc, name, rest)?;
         compare(call, told.as_str(), want)?;

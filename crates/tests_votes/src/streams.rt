@@ -8,30 +8,31 @@ use px_base::{
 use std::alloc::Global;
 use std::test::Fail;
 
-// What came, and the bytes of it.
+// What came, and the bytes of it in brackets.
 fn shown(alloc: Global, word: &str, bytes: &[u8]) -> Result<String, Fail> {
     let text = str::from_utf8(bytes).unwrap_or("?");
-    Ok(format!(in alloc; "{word} {text}")?)
+    Ok(format!(in alloc; "{word} [{text}]")?)
 }
 
 fn next_line(alloc: Global, source: &mut MemSource) -> Result<String, Fail> {
-    match line(alloc, source, 2) {
-        LineEnd::Line(bytes) => shown(alloc, "line", bytes.as_slice()),
-        LineEnd::End => shown(alloc, "end", b""),
-        LineEnd::TooLong => shown(alloc, "too long", b""),
-        _ => shown(alloc, "fault", b""),
-    }
+    let word = match line(alloc, source, 2) {
+        LineEnd::Line(bytes) => return shown(alloc, "line", bytes.as_slice()),
+        LineEnd::End => "end",
+        LineEnd::TooLong => "too long",
+        _ => "fault",
+    };
+    Ok(String::from_str(alloc, word)?)
 }
 
 fn next_piece(alloc: Global, source: &mut MemSource) -> Result<String, Fail> {
     match read_piece(alloc, source, 2) {
         Piece::Line(bytes) => shown(alloc, "line", bytes.as_slice()),
         Piece::Last(bytes) => shown(alloc, "last", bytes.as_slice()),
-        _ => shown(alloc, "another", b""),
+        _ => Ok(String::from_str(alloc, "another")?),
     }
 }
 
-// A read of two bytes: what it came to, the faults so far, and the bytes.
+// A read of two bytes: what it came to, the faults so far, and the bytes in brackets.
 fn read<S: Source>(alloc: Global, source: &mut S) -> Result<String, Fail> {
     let mut room = [0; 2];
     let end = source.read(&mut room);
@@ -40,7 +41,7 @@ fn read<S: Source>(alloc: Global, source: &mut S) -> Result<String, Fail> {
         _ => b"",
     };
     let text = str::from_utf8(bytes).unwrap_or("?");
-    Ok(format!(in alloc; "{end:?} {} {text}", source.read_faults())?)
+    Ok(format!(in alloc; "{end:?} {} [{text}]", source.read_faults())?)
 }
 
 impl Answers for MemSource {
@@ -62,11 +63,11 @@ fn play_in(alloc: Global, bytes: &[u8], failing: u64, table: &str) -> Result<(),
 
 // Three bytes are one too many, and are spent.
 const LINES: &str = "\
-    line ->line ab
-    line ->line
+    line ->line [ab]
+    line ->line []
     line ->too long
-    piece ->line
-    piece ->last d
+    piece ->line []
+    piece ->last [d]
     line ->end";
 
 #[test]
@@ -75,10 +76,10 @@ fn lines_end_with_a_line_feed_or_with_the_input(rt: HostRuntime) -> Result<(), F
 }
 
 const READS: &str = "\
-    read ->Took(2) 0 ab
-    read ->Failed 1
-    read ->Took(1) 1 c
-    read ->End 1";
+    read ->Took(2) 0 [ab]
+    read ->Failed 1 []
+    read ->Took(1) 1 [c]
+    read ->End 1 []";
 
 #[test]
 fn the_listed_read_fails(rt: HostRuntime) -> Result<(), Fail> {
@@ -114,7 +115,7 @@ const WRITES: &str = "\
     all ab->All 0
     all cd->Failed 1
     write ef->Took(2) 1
-    bytes ->has abef";
+    bytes ->has [abef]";
 
 #[test]
 fn the_listed_write_fails(rt: HostRuntime) -> Result<(), Fail> {
@@ -129,9 +130,9 @@ impl Answers for StdSource<&[u8]> {
 }
 
 const STD_READS: &str = "\
-    read ->Took(2) 0 ab
-    read ->Took(1) 0 c
-    read ->End 0";
+    read ->Took(2) 0 [ab]
+    read ->Took(1) 0 [c]
+    read ->End 0 []";
 
 #[test]
 fn a_std_reader_is_a_source(rt: HostRuntime) -> Result<(), Fail> {

@@ -1,17 +1,13 @@
 -- When a push is ready to be done at a replica, and why it is not.
 use Rattle.std.specs.Prelude.{◌≡◌, ◌≤◌, ℕ, List, None, true}
-use Rattle.px_base.specs.RefList.{IsRefList}
 use Rattle.px_base.specs.declared.hash.Hash.{Hash}
 use Rattle.px_base.specs.declared.push.Push.{Push}
-use Rattle.objstore.specs.Bundle.{bundle_fault}
 use Rattle.objstore.specs.Reach.{IsClosed, Objects}
-use Rattle.refstore.specs.Hook.{vote_on}
-use Rattle.refstore.specs.Updates.{Fits, after}
 use Rattle.node_calls.specs.Calls.{Lacks, PrepareRefuses, new_tips, prepare_refusal, with_coming}
 use Rattle.node_rows.specs.Place.{Place}
-use Rattle.node_replica.specs.Hashes.{GiveHashes}
 use Rattle.node_calls.specs.declared.node.NodeError.{NodeError}
 use Rattle.node_calls.specs.declared.node.NodeError.TheVariants.{Fault, Memory, Refused}
+use Rattle.node_replica.specs.Replica.{IsReady}
 use Rattle.node_replica.specs.declared.replica.Ready.{Ready}
 
 -- an object is missed, or memory wants
@@ -20,16 +16,11 @@ IsMissing objects tips (Refused r) = Lacks objects tips r
 IsMissing objects tips Memory = Unit {0}
 IsMissing objects tips Fault = ⊥
 
--- the push may be ready at the place, and has the references that it would leave, and its vote
+-- the push may be ready at the place, which is held, once the fence there is its lease
 pub record IsReadyAt (ready : Ready) (place : Place) : Type 0 where
   pub held : place.held ≡ true
   pub above : place.fence ≤ ready.lease
-  pub leaves : ready.prepared.refs ≡ after place.refs ready.push.updates
-  pub vote : ready.prepared.vote ≡ vote_on ready.push.updates
-  pub list : IsRefList place.refs
-  pub fits : Fits ready.push.updates place.refs
-  pub ids : GiveHashes ready.push.updates
-  pub comes : bundle_fault place.objects 0 ready.push.objects ≡ None
+  pub stands : IsReady place.refs place.objects ready.lease ready
 
 -- the push is accepted, and this is it, ready
 pub record IsPrepared (lease : ℕ) (push : Push) (place : Place) (ready : Ready) : Type 0 where

@@ -2,7 +2,7 @@
 #![tactic(auto)]
 
 use px_base::{StdSink, StdSource, Words};
-use px_top::{run, tell_memory};
+use px_run::{run, tell_memory};
 use std::env;
 use std::io::ErrorKind;
 use std::process::ExitCode;

@@ -5,7 +5,7 @@ use Rattle.px_base.specs.declared.voter.Voter.{Voter}
 use Rattle.px_script.specs.Spelling.{Asks}
 use Rattle.px_script.specs.declared.event.Event.{Event}
 use Rattle.px_script.specs.declared.event.Event.TheVariants.{Open, Cast, Withdraw, Cancel, Stop, Close, Collect, Outcome}
-use Rattle.px_shell.specs.Machine.{Machine as MachineOf}
+use Rattle.script_run.specs.Machine.{Machine as MachineOf}
 use Rattle.txmanager.specs.Registry.{answer_at, are_lawful_rounds, transaction_at, with_changed, with_registered, without_transaction}
 use Rattle.txmanager.specs.VoterCalls as by
 use Rattle.txmanager.specs.Voting as on

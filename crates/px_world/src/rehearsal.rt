@@ -1,14 +1,14 @@
 //! The rehearsal of a script: a world, and the lines that drive it.
 
-ghost use Rattle.px_shell.specs.Acts.{Acts};
-ghost use Rattle.px_shell.specs.Ends.{EndHasCause};
+ghost use Rattle.script_run.specs.Acts.{Acts};
+ghost use Rattle.script_run.specs.Ends.{EndHasCause};
 ghost use Rattle.px_world.specs.Machine.{machine};
 ghost use Rattle.px_world.specs.Rehearsal.{Rehearses};
 
 use crate::{Event, Reply, World, line_of};
 use px_base::{Sink, Source};
 use px_script::{ScriptLine, read_line};
-use px_shell::{Act, RehearseEnd, StateMachine, run_script};
+use script_run::{Act, RehearseEnd, StateMachine, run_script};
 use std::alloc::Global;
 
 /// The most bytes that a script may have.

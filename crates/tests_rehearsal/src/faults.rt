@@ -2,7 +2,7 @@
 
 use crate::runs::{Ran, rehearsed, run_of, sink, source};
 use px_base::Words;
-use px_top::{Status, tell_memory};
+use px_run::{Status, tell_memory};
 use std::alloc::{AllocError, Global};
 use std::test::Fail;
 

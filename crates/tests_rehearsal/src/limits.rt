@@ -3,7 +3,7 @@
 use crate::calls::{Answers, play};
 use crate::runs::rehearsed;
 use px_base::{MemSink, MemSource};
-use px_shell::MAX_LINE_BYTES;
+use script_run::MAX_LINE_BYTES;
 use px_world::rehearse_within;
 use std::alloc::{AllocError, Global};
 use std::test::Fail;

@@ -1,7 +1,7 @@
 //! Runs of the program in memory.
 
 use px_base::{MemSink, MemSource, Words};
-use px_top::{Status, run};
+use px_run::{Status, run};
 use std::alloc::{AllocError, Global};
 
 /// A run: what it came to, and what it wrote.

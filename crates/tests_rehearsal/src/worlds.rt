@@ -2,7 +2,7 @@
 
 use crate::calls::{Answers, play};
 use px_base::{MemSink, MemSource, StorageName, TxId};
-use px_shell::{Act, StateMachine};
+use script_run::{Act, StateMachine};
 use px_world::{Event, Refusal, RehearseEnd, Reply, World, line_of, rehearse};
 use std::alloc::Global;
 use std::test::Fail;

@@ -1,0 +1,27 @@
+-- What a machine does with one line.
+use Rattle.std.specs.Prelude.{◌≡◌, ◌⊎◌, ℕ, List, Some, None}
+use Rattle.script_run.specs.Machine.{Machine}
+use Rattle.script_run.specs.Script.{IsBad}
+use Rattle.script_run.specs.declared.machine.Act.{Act}
+use Rattle.script_run.specs.declared.machine.Act.TheVariants as act
+
+-- the line asks an event, which led from s to s'
+pub record Does {S E R : Type 0} (m : Machine S E R) (s s' : S) (line : List ℕ) : Type 0 where
+  pub event : E
+  pub asks : m.asks (Some event) line
+  pub state : s' ≡ m.next s event
+
+-- the line asks an event, which led from s to s', and this is printed of its reply
+pub record Prints {S E R : Type 0} (m : Machine S E R) (s s' : S) (line text : List ℕ)
+    : Type 0 where
+  pub event : E
+  pub asks : m.asks (Some event) line
+  pub state : s' ≡ m.next s event
+  pub printed : text ≡ m.text (m.reply s event)
+
+-- what a machine in state s did with the line, and its state after that
+abbrev pub Acts : {S E R : Type 0} → Machine S E R → S → S → List ℕ → Act → Type 0
+Acts m s s' line act.Nothing = m.asks None line × (s' ≡ s)
+Acts m s s' line (act.Prints text) = Prints m s s' line text
+Acts m s s' line act.Bad = IsBad m line × (s' ≡ s)
+Acts m s s' line act.Memory = (s' ≡ s) ⊎ Does m s s' line

@@ -1,0 +1,70 @@
+//! The run of a whole script.
+
+ghost use Rattle.script_run.specs.Ends.{Ends, EndHasCause};
+
+use crate::StateMachine;
+use crate::next::{Next, next_line};
+use crate::playing::{Play, play_line};
+use px_base::{Sink, Source};
+use std::alloc::Global;
+
+/// What the run of a script came to.
+#[derive(Clone, Copy, Debug, PartialEq, Eq)]
+pub enum RehearseEnd {
+    /// The input was read to its end, and every line was done and printed.
+    Done,
+    /// The line with this number, from 1, is bad: it asks nothing that the machine knows, or is above the greatest
+    /// length.
+    BadLine(u64),
+    /// One byte more came than the input may have.
+    TooLong,
+    /// The source failed, and its count rose. All that the lines print which were read whole went out.
+    ReadFault,
+    /// The sink failed, and its count rose. A front of what the lines print went out.
+    WriteFault,
+    /// Memory wanted. What the lines before print went out.
+    Memory,
+}
+
+/// Runs the machine over the lines of a script of at most `limit` bytes. Each line is done and printed before the next
+/// one is read.
+pub fn run_script<M: StateMachine, S: Source, O: Sink>(
+    alloc: Global,
+    machine: &mut M,
+    limit: u64,
+    input: &mut S,
+    out: &mut O,
+) -> RehearseEnd
+    ensures run { Ends M.machine limit machine.old machine.new
+        (S.left input.old) (S.left input.new) (O.taken out.old) (O.taken out.new) result }
+    ensures cause { EndHasCause (S.read_faults input.old) (S.read_faults input.new)
+        (O.write_faults out.old) (O.write_faults out.new) result }
+{
+    let mut room = limit;
+    let mut number: u64 = 0;
+    loop {
+        match next_line(alloc, input, room) {
+            Next::Line(line) => {
+                number += 1;
+                room -= line.len() as u64 + 1;
+                match play_line(alloc, machine, line.as_slice(), out) {
+                    Play::Done => {}
+                    Play::Bad => return RehearseEnd::BadLine(number),
+                    Play::WriteFault => return RehearseEnd::WriteFault,
+                    Play::Memory => return RehearseEnd::Memory,
+                }
+            }
+            Next::Last(line) => match play_line(alloc, machine, line.as_slice(), out) {
+                Play::Done => return RehearseEnd::Done,
+                Play::Bad => return RehearseEnd::BadLine(number + 1),
+                Play::WriteFault => return RehearseEnd::WriteFault,
+                Play::Memory => return RehearseEnd::Memory,
+            },
+            Next::End => return RehearseEnd::Done,
+            Next::Overlong => return RehearseEnd::BadLine(number + 1),
+            Next::TooLong => return RehearseEnd::TooLong,
+            Next::ReadFault => return RehearseEnd::ReadFault,
+            Next::Memory => return RehearseEnd::Memory,
+        }
+    }
+}

@@ -6,28 +6,28 @@ use Rattle.std.proofs.lemmas.Bool.{cond-false}
 use Rattle.std.proofs.lemmas.Bool.Decides.{nat_tests}
 use Rattle.node_calls.proofs.StepLemmas.{Keeps, run_keeps, step_keeps}
 use Rattle.node_calls.specs.Calls.{fenced}
-use Rattle.node_rows.proofs.RowLemmas.{this_or_other}
+use Rattle.node_calls.proofs.ReplicaLemmas.{this_or_other}
 use Rattle.node_calls.specs.Ends.{Ends, FenceEnds, IsEither, IsRaised}
-use Rattle.node_calls.specs.Sound.{IsSound, IsSoundPlace, IsSoundPush}
-use Rattle.node_rows.specs.Place.{NodeState, Place, ReadyPush, Same, kept_above, raised}
+use Rattle.node_calls.specs.Whole.{IsWhole, IsWholeReplica, IsWholePush}
+use Rattle.node_calls.specs.ReplicaState.{NodeState, ReplicaState, ReadyPush, Same, kept_above, raised}
 use Rattle.node_calls.specs.Steps.{HasNoEffect, IsRun, IsStep}
 use Rattle.node_calls.specs.declared.node.NodeError.{NodeError}
 use Rattle.node_calls.specs.declared.node.NodeError.TheVariants.{Fault, Memory, Refused}
-use Rattle.node_calls.specs.declared.refusal.NodeRefusal.{NodeRefusal}
+use Rattle.px_ops.specs.declared.node_refusal.NodeRefusal.{NodeRefusal}
 
 -- a call that is not refused carries a lease that is not below the fence
-pub fence_passed : (lease : ℕ) (place : Place) → fenced lease place ≡ None
+pub fence_passed : (lease : ℕ) (place : ReplicaState) → fenced lease place ≡ None
     → place.fence < lease + 1
 fence_passed lease place none = grind (arith, nat_tests)
 
-pub never_below : (lease : ℕ) (place : Place) → lease < place.fence → fenced lease place ≡ None → ⊥
+pub never_below : (lease : ℕ) (place : ReplicaState) → lease < place.fence → fenced lease place ≡ None → ⊥
 never_below lease place below none = absurd (omega (arith, fence_passed lease place none))
 
 -- ---- a call that is never done
 
-module _ {A : Type 0} (refuses : Place → NodeRefusal → Type 0) (does : Place → A → Place → Type 0)
+module _ {A : Type 0} (refuses : ReplicaState → NodeRefusal → Type 0) (does : ReplicaState → A → ReplicaState → Type 0)
     (path : List ℕ) (old new : NodeState)
-    (never : (answer : A) (place : Place) → does (old path) answer place → ⊥) where
+    (never : (answer : A) (place : ReplicaState) → does (old path) answer place → ⊥) where
   either_same : IsEither refuses does path old new → Same old new
   either_same (inl same) = same
   either_same (inr done) = absurd (never done.0 done.1.place done.1.does_)
@@ -42,11 +42,11 @@ module _ {A : Type 0} (refuses : Place → NodeRefusal → Type 0) (does : Place
 -- ---- fences
 
 -- the fence is no lower
-abbrev pub FenceStays : Place → Place → Type 0
+abbrev pub FenceStays : ReplicaState → ReplicaState → Type 0
 FenceStays place then_ = place.fence ≤ then_.fence
 
-fence_of : (a b : Place) → a ≡ b → a.fence ≡ b.fence
-fence_of a b same = ap (λ (p : Place). p.fence) same
+fence_of : (a b : ReplicaState) → a ≡ b → a.fence ≡ b.fence
+fence_of a b same = ap (λ (p : ReplicaState). p.fence) same
 
 is_raised : (fence to now : ℕ) → now ≡ max fence to → fence ≤ now
 is_raised fence to now is = omega arith
@@ -92,31 +92,31 @@ kept_same fence None is = refl
 kept_same fence (Some push) is = cond-false (nat_lt push.lease fence) None (Some push)
     (let not_below : nat_lt push.lease fence ≡ false = grind (arith, nat_tests, is) in not_below)
 
-ready_at_fence : (place : Place) (ready : Option ReadyPush)
-    → IfSome ready (λ (push : ReadyPush). IsSoundPush place push)
+ready_at_fence : (place : ReplicaState) (ready : Option ReadyPush)
+    → IfSome ready (λ (push : ReadyPush). IsWholePush place push)
     → IfSome ready (λ (push : ReadyPush). push.lease ≡ place.fence)
-ready_at_fence place None sound = tt
-ready_at_fence place (Some push) sound = sound.fenced
+ready_at_fence place None whole = tt
+ready_at_fence place (Some push) whole = whole.fenced
 
 -- so all is as it was
-raised_same : (lease : ℕ) (place : Place) → IsSoundPlace place → lease < place.fence
+raised_same : (lease : ℕ) (place : ReplicaState) → IsWholeReplica place → lease < place.fence
     → raised lease place ≡ place
-raised_same lease place sound below =
+raised_same lease place whole below =
     let same : max place.fence lease ≡ place.fence =
     max-eq_left (let least : lease ≤ place.fence = omega (arith, below) in least) in
     ap (λ (f : ℕ). record place { fence = f; ready = kept_above f place.ready }) same
     ∙ ap (λ (r : Option ReadyPush). record place { ready = r })
-    (kept_same place.fence place.ready (ready_at_fence place place.ready sound.ready))
+    (kept_same place.fence place.ready (ready_at_fence place place.ready whole.ready))
 
 pub fence_stays : (lease : ℕ) (path : List ℕ) (result : Result (Option ℕ) NodeError)
-    (old new : NodeState) → IsSound old → lease < (old path).fence
+    (old new : NodeState) → IsWhole old → lease < (old path).fence
     → FenceEnds lease path result old new → Same old new
-fence_stays lease path result old new sound below ends = at result ends
+fence_stays lease path result old new whole below ends = at result ends
   where
     as_it_was : IsRaised lease path old new → Same old new
     as_it_was changes q = ⊎_elim
         (λ here. subst (λ (p : List ℕ). new p ≡ old p) here
-        (changes.here ∙ raised_same lease (old path) (sound path) below))
+        (changes.here ∙ raised_same lease (old path) (whole path) below))
         (λ same. same) (this_or_other old new path changes.others q)
 
     at : (r : Result (Option ℕ) NodeError) → FenceEnds lease path r old new → Same old new

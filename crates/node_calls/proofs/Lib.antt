@@ -1,6 +1,9 @@
 mod FenceLemmas
+pub mod OptionLemmas
 mod ReachLemmas
 mod RefusalLemmas
-mod SoundLemmas
+pub mod ReplicaLemmas
 mod StepLemmas
 mod TipLemmas
+pub mod UpdateLemmas
+mod WholeLemmas

@@ -8,58 +8,58 @@ use Rattle.std.proofs.lemmas.Slice.Eq.{bytes_eq-Decides}
 use Rattle.px_base.specs.RefList.{IsRefList}
 use Rattle.px_base.specs.declared.hash.Hash.{Hash}
 use Rattle.px_base.specs.declared.push.Push.{Push}
-use Rattle.refstore.specs.Hook.{AreUpdates}
+use Rattle.px_base.specs.Update.{AreUpdates}
 use Rattle.node_calls.specs.Calls.{Aborts, Applies, Commits, Creates, Prepares, Removes}
 use Rattle.node_calls.specs.Ends.{Ends, FenceEnds, IsDone, IsEither, IsRaised, ListEnds, ReadEnds}
-use Rattle.node_rows.specs.Place.{Changes, NodeState, Place, Same, raised, without_ready}
+use Rattle.node_calls.specs.ReplicaState.{Changes, NodeState, ReplicaState, Same, raised, without_ready}
 use Rattle.node_calls.specs.Reads.{HasObject, HasRefs, IsSnapshot}
 use Rattle.node_calls.specs.Steps.{IsRun, IsStep, Runs, create, prepare, commit, abort, fence, refs, object, snapshot, apply, remove, list, ping, loses_ready}
 use Rattle.node_calls.specs.declared.node.NodeError.{NodeError}
 use Rattle.node_calls.specs.declared.node.NodeError.TheVariants.{Fault, Memory, Refused}
-use Rattle.node_calls.specs.declared.refusal.NodeRefusal.{NodeRefusal}
+use Rattle.px_ops.specs.declared.node_refusal.NodeRefusal.{NodeRefusal}
 use Rattle.node_calls.specs.declared.snapshot.Snapshot.{Snapshot}
 
 -- the relation holds between what a place is and what each call makes of it
-pub record Keeps (R : Place → Place → Type 0) : Type 0 where
-  pub stays : (place : Place) → R place place
-  pub creates : (lease : ℕ) (place : Place) (answer : Unit {0}) (then_ : Place)
+pub record Keeps (R : ReplicaState → ReplicaState → Type 0) : Type 0 where
+  pub stays : (place : ReplicaState) → R place place
+  pub creates : (lease : ℕ) (place : ReplicaState) (answer : Unit {0}) (then_ : ReplicaState)
       → Creates lease place answer then_ → R place then_
-  pub prepares : (lease : ℕ) (push : Push) (place : Place) (answer : Hash) (then_ : Place)
+  pub prepares : (lease : ℕ) (push : Push) (place : ReplicaState) (answer : Hash) (then_ : ReplicaState)
       → AreUpdates push.updates → Prepares lease push place answer then_ → R place then_
-  pub commits : (lease : ℕ) (hash : Hash) (place : Place) (answer : Hash) (then_ : Place)
+  pub commits : (lease : ℕ) (hash : Hash) (place : ReplicaState) (answer : Hash) (then_ : ReplicaState)
       → Commits lease hash place answer then_ → R place then_
-  pub aborts : (lease : ℕ) (place : Place) (answer : Unit {0}) (then_ : Place)
+  pub aborts : (lease : ℕ) (place : ReplicaState) (answer : Unit {0}) (then_ : ReplicaState)
       → Aborts lease place answer then_ → R place then_
-  pub raises : (lease : ℕ) (place : Place) → R place (raised lease place)
-  pub applies : (lease : ℕ) (given : Snapshot) (place : Place) (answer : Unit {0}) (then_ : Place)
+  pub raises : (lease : ℕ) (place : ReplicaState) → R place (raised lease place)
+  pub applies : (lease : ℕ) (given : Snapshot) (place : ReplicaState) (answer : Unit {0}) (then_ : ReplicaState)
       → IsRefList given.refs → Applies lease given place answer then_ → R place then_
-  pub removes : (lease : ℕ) (place : Place) (answer : Unit {0}) (then_ : Place)
+  pub removes : (lease : ℕ) (place : ReplicaState) (answer : Unit {0}) (then_ : ReplicaState)
       → Removes lease place answer then_ → R place then_
-  pub ends : (place : Place) → R place (without_ready place)
+  pub ends : (place : ReplicaState) → R place (without_ready place)
 
-module _ (R : Place → Place → Type 0) (keeps : Keeps R) where
+module _ (R : ReplicaState → ReplicaState → Type 0) (keeps : Keeps R) where
   module _ (old new : NodeState) where
     same_keeps : Same old new → (p : List ℕ) → R (old p) (new p)
     same_keeps same p =
-        subst (λ (place : Place). R (old p) place) (sym (same p)) (keeps.stays (old p))
+        subst (λ (place : ReplicaState). R (old p) place) (sym (same p)) (keeps.stays (old p))
 
-    changes_keep : (path : List ℕ) (place : Place) → Changes old new path place
+    changes_keep : (path : List ℕ) (place : ReplicaState) → Changes old new path place
         → R (old path) place → (p : List ℕ) → R (old p) (new p)
     changes_keep path place changes here p = elim (cases_Bool (bytes_eq p path)) [
       | inl is ↦
           let one : p ≡ path = (bytes_eq-Decides p path).0 is in
           subst (λ (q : List ℕ). R (old q) (new q)) (sym one)
-          (subst (λ (x : Place). R (old path) x) (sym changes.here) here)
+          (subst (λ (x : ReplicaState). R (old path) x) (sym changes.here) here)
       | inr other ↦
           let apart : p ≢ path =
           not_from_Decides (bytes_eq p path) (bytes_eq-Decides p path) other in
-          subst (λ (place : Place). R (old p) place) (sym (changes.others p apart))
+          subst (λ (place : ReplicaState). R (old p) place) (sym (changes.others p apart))
           (keeps.stays (old p))
     ]
 
-    module _ {A : Type 0} (refuses : Place → NodeRefusal → Type 0)
-        (does : Place → A → Place → Type 0) (path : List ℕ)
-        (does_keep : (answer : A) (then_ : Place) → does (old path) answer then_
+    module _ {A : Type 0} (refuses : ReplicaState → NodeRefusal → Type 0)
+        (does : ReplicaState → A → ReplicaState → Type 0) (path : List ℕ)
+        (does_keep : (answer : A) (then_ : ReplicaState) → does (old path) answer then_
         → R (old path) then_)
       where
         done_keeps : (answer : A) → IsDone refuses does path old new answer → (p : List ℕ)
@@ -92,7 +92,7 @@ module _ (R : Place → Place → Type 0) (keeps : Keeps R) where
     fence_keeps lease path (Err Memory) (inl same) p = same_keeps same p
     fence_keeps lease path (Err Memory) (inr is) p = raised_keeps lease path is p
 
-    read_same : {A : Type 0} (IsAnswer : Place → A → Type 0) (path : List ℕ)
+    read_same : {A : Type 0} (IsAnswer : ReplicaState → A → Type 0) (path : List ℕ)
         (result : Result A NodeError) → ReadEnds IsAnswer path result old new → Same old new
     read_same IsAnswer path (Ok answer) ends = ends.2
     read_same IsAnswer path (Err (Refused r)) ends = ends.2
@@ -128,9 +128,9 @@ module _ (R : Place → Place → Type 0) (keeps : Keeps R) where
     step_keeps (list result ends) p = same_keeps (list_same result ends) p
     step_keeps (ping ends) p = same_keeps ends p
     step_keeps (loses_ready ended) p =
-        subst (λ (place : Place). R (old p) place) (sym (ended p)) (keeps.ends (old p))
+        subst (λ (place : ReplicaState). R (old p) place) (sym (ended p)) (keeps.ends (old p))
 
-  module _ (through : (a b c : Place) → R a b → R b c → R a c) where
+  module _ (through : (a b c : ReplicaState) → R a b → R b c → R a c) where
     runs_keep : (old : NodeState) (nodes : List NodeState) (new : NodeState) → Runs old nodes new
         → (p : List ℕ) → R (old p) (new p)
     runs_keep old [] new same p =

@@ -15,24 +15,24 @@ use Rattle.objstore.specs.Reach.{IsClosed, Objects}
 use Rattle.objstore.specs.Walk.{IsFirstMissing}
 use Rattle.refstore.specs.Hook.{vote_on}
 use Rattle.refstore.specs.Updates.{after, refusal_of}
-use Rattle.node_rows.specs.Place.{Place, ReadyPush, raised}
+use Rattle.node_calls.specs.ReplicaState.{ReplicaState, ReadyPush, raised}
 use Rattle.node_calls.specs.Refusals.{of_bundle, of_updates}
-use Rattle.node_calls.specs.declared.refusal.NodeRefusal.{NodeRefusal}
-use Rattle.node_calls.specs.declared.refusal.NodeRefusal.TheVariants.{Fenced, NoRepo, RepoExists, NotPrepared, VoteDiffers, Missing}
+use Rattle.px_ops.specs.declared.node_refusal.NodeRefusal.{NodeRefusal}
+use Rattle.px_ops.specs.declared.node_refusal.NodeRefusal.TheVariants.{Fenced, NoRepo, RepoExists, NotPrepared, VoteDiffers, Missing}
 use Rattle.node_calls.specs.declared.snapshot.Snapshot.{Snapshot}
 
 -- ---- causes that calls share
 
 -- the lease is below the fence
-abbrev pub fenced : ℕ → Place → Option NodeRefusal
+abbrev pub fenced : ℕ → ReplicaState → Option NodeRefusal
 fenced lease place = if nat_lt lease place.fence then Some (Fenced place.fence) else None
 
 -- the repository is not held
-abbrev pub not_held : Place → Option NodeRefusal
+abbrev pub not_held : ReplicaState → Option NodeRefusal
 not_held place = if place.held then None else Some NoRepo
 
 -- the objects that are there, with those that come
-abbrev pub with_coming : Place → List GitObject → Objects
+abbrev pub with_coming : ReplicaState → List GitObject → Objects
 with_coming place objects = object_in place.objects (with_objects [] objects)
 
 -- the first id that the walk from the tips takes and that has no object
@@ -47,11 +47,11 @@ abbrev pub has_none : References → Bool
 has_none [] = true
 has_none (ref ∷ refs) = false
 
-abbrev pub create_refusal : ℕ → Place → Option NodeRefusal
+abbrev pub create_refusal : ℕ → ReplicaState → Option NodeRefusal
 create_refusal lease place = option_or (fenced lease place)
     (if place.held && not (has_none place.refs) then Some RepoExists else None)
 
-abbrev pub created : ℕ → Place → Place
+abbrev pub created : ℕ → ReplicaState → ReplicaState
 created lease place =
     raised (lease + 1) (record place { held = true; refs = []; objects = [] })
 
@@ -62,14 +62,14 @@ abbrev pub new_tips : List Update → List Hash
 new_tips updates =
     filter (λ id. not (is_zero id)) (map (λ (update : Update). update.new) updates)
 
-abbrev pub prepare_refusal : ℕ → Push → Place → Option NodeRefusal
+abbrev pub prepare_refusal : ℕ → Push → ReplicaState → Option NodeRefusal
 prepare_refusal lease push place =
     option_or (fenced lease place)
     (option_or (not_held place)
     (option_or (of_bundle (bundle_fault place.objects 0 push.objects))
     (of_updates (refusal_of place.refs push.updates))))
 
-abbrev pub prepared : ℕ → Push → Place → Place
+abbrev pub prepared : ℕ → Push → ReplicaState → ReplicaState
 prepared lease push place = record (raised lease place) {
   ready = Some (record { lease = lease; updates = push.updates; objects = push.objects });
 }
@@ -88,12 +88,12 @@ commit_fault hash (Some push) =
     if same_hash (vote_on push.updates) hash then None
     else Some (VoteDiffers (vote_on push.updates))
 
-abbrev pub commit_refusal : ℕ → Hash → Place → Option NodeRefusal
+abbrev pub commit_refusal : ℕ → Hash → ReplicaState → Option NodeRefusal
 commit_refusal lease hash place =
     option_or (fenced lease place)
     (option_or (not_held place) (commit_fault hash (ready_under lease place.ready)))
 
-abbrev pub committed : ℕ → ReadyPush → Place → Place
+abbrev pub committed : ℕ → ReadyPush → ReplicaState → ReplicaState
 committed lease push place = raised (lease + 1) (record place {
   refs = after place.refs push.updates;
   objects = with_objects place.objects push.objects;
@@ -102,20 +102,20 @@ committed lease push place = raised (lease + 1) (record place {
 
 -- ---- abort: the ready push is dropped
 
-abbrev pub abort_refusal : ℕ → Place → Option NodeRefusal
+abbrev pub abort_refusal : ℕ → ReplicaState → Option NodeRefusal
 abort_refusal lease place = option_or (fenced lease place) (not_held place)
 
-abbrev pub aborted : ℕ → Place → Place
+abbrev pub aborted : ℕ → ReplicaState → ReplicaState
 aborted lease place = raised (lease + 1) (record place { ready = None })
 
 -- ---- apply: the repository is held, with the references of a snapshot and its objects beside those
 -- that are there
 
-abbrev pub apply_refusal : ℕ → Snapshot → Place → Option NodeRefusal
+abbrev pub apply_refusal : ℕ → Snapshot → ReplicaState → Option NodeRefusal
 apply_refusal lease snapshot place = option_or (fenced lease place)
     (of_bundle (bundle_fault place.objects 0 snapshot.objects))
 
-abbrev pub applied : ℕ → Snapshot → Place → Place
+abbrev pub applied : ℕ → Snapshot → ReplicaState → ReplicaState
 applied lease snapshot place = raised (lease + 1) (record place {
   held = true;
   refs = snapshot.refs;
@@ -124,36 +124,36 @@ applied lease snapshot place = raised (lease + 1) (record place {
 
 -- ---- remove: the repository is not held any more; its fence and its last lease stay
 
-abbrev pub removed : ℕ → Place → Place
+abbrev pub removed : ℕ → ReplicaState → ReplicaState
 removed lease place =
     raised (lease + 1) (record place { held = false; refs = []; objects = [] })
 
 -- ---- what each call answers, and leaves; and why it is refused
 
-abbrev pub CreateRefuses : ℕ → Place → NodeRefusal → Type 0
+abbrev pub CreateRefuses : ℕ → ReplicaState → NodeRefusal → Type 0
 CreateRefuses lease place r = create_refusal lease place ≡ Some r
 
-pub record Creates (lease : ℕ) (place : Place) (answer : Unit {0}) (then_ : Place) : Type 0 where
+pub record Creates (lease : ℕ) (place : ReplicaState) (answer : Unit {0}) (then_ : ReplicaState) : Type 0 where
   pub accepted : create_refusal lease place ≡ None
   pub is : then_ ≡ created lease place
 
 -- the causes before the last one, or, where none of these holds, an object that is missed
-abbrev pub PrepareRefuses : ℕ → Push → Place → NodeRefusal → Type 0
+abbrev pub PrepareRefuses : ℕ → Push → ReplicaState → NodeRefusal → Type 0
 PrepareRefuses lease push place r = (prepare_refusal lease push place ≡ Some r)
     ⊎ ((prepare_refusal lease push place ≡ None)
     × Lacks (with_coming place push.objects) (new_tips push.updates) r)
 
-pub record Prepares (lease : ℕ) (push : Push) (place : Place) (answer : Hash) (then_ : Place)
+pub record Prepares (lease : ℕ) (push : Push) (place : ReplicaState) (answer : Hash) (then_ : ReplicaState)
     : Type 0 where
   pub accepted : prepare_refusal lease push place ≡ None
   pub closed : IsClosed (with_coming place push.objects) (new_tips push.updates)
   pub vote : answer ≡ vote_on push.updates
   pub is : then_ ≡ prepared lease push place
 
-abbrev pub CommitRefuses : ℕ → Hash → Place → NodeRefusal → Type 0
+abbrev pub CommitRefuses : ℕ → Hash → ReplicaState → NodeRefusal → Type 0
 CommitRefuses lease hash place r = commit_refusal lease hash place ≡ Some r
 
-pub record Commits (lease : ℕ) (hash : Hash) (place : Place) (answer : Hash) (then_ : Place)
+pub record Commits (lease : ℕ) (hash : Hash) (place : ReplicaState) (answer : Hash) (then_ : ReplicaState)
     : Type 0 where
   pub accepted : commit_refusal lease hash place ≡ None
   pub push : ReadyPush
@@ -161,27 +161,27 @@ pub record Commits (lease : ℕ) (hash : Hash) (place : Place) (answer : Hash) (
   pub vote : answer ≡ vote_on push.updates
   pub is : then_ ≡ committed lease push place
 
-abbrev pub AbortRefuses : ℕ → Place → NodeRefusal → Type 0
+abbrev pub AbortRefuses : ℕ → ReplicaState → NodeRefusal → Type 0
 AbortRefuses lease place r = abort_refusal lease place ≡ Some r
 
-pub record Aborts (lease : ℕ) (place : Place) (answer : Unit {0}) (then_ : Place) : Type 0 where
+pub record Aborts (lease : ℕ) (place : ReplicaState) (answer : Unit {0}) (then_ : ReplicaState) : Type 0 where
   pub accepted : abort_refusal lease place ≡ None
   pub is : then_ ≡ aborted lease place
 
-abbrev pub ApplyRefuses : ℕ → Snapshot → Place → NodeRefusal → Type 0
+abbrev pub ApplyRefuses : ℕ → Snapshot → ReplicaState → NodeRefusal → Type 0
 ApplyRefuses lease snapshot place r = (apply_refusal lease snapshot place ≡ Some r)
     ⊎ ((apply_refusal lease snapshot place ≡ None)
     × Lacks (with_coming place snapshot.objects) (values_of snapshot.refs) r)
 
-pub record Applies (lease : ℕ) (snapshot : Snapshot) (place : Place) (answer : Unit {0})
-    (then_ : Place) : Type 0 where
+pub record Applies (lease : ℕ) (snapshot : Snapshot) (place : ReplicaState) (answer : Unit {0})
+    (then_ : ReplicaState) : Type 0 where
   pub accepted : apply_refusal lease snapshot place ≡ None
   pub closed : IsClosed (with_coming place snapshot.objects) (values_of snapshot.refs)
   pub is : then_ ≡ applied lease snapshot place
 
-abbrev pub RemoveRefuses : ℕ → Place → NodeRefusal → Type 0
+abbrev pub RemoveRefuses : ℕ → ReplicaState → NodeRefusal → Type 0
 RemoveRefuses lease place r = fenced lease place ≡ Some r
 
-pub record Removes (lease : ℕ) (place : Place) (answer : Unit {0}) (then_ : Place) : Type 0 where
+pub record Removes (lease : ℕ) (place : ReplicaState) (answer : Unit {0}) (then_ : ReplicaState) : Type 0 where
   pub accepted : fenced lease place ≡ None
   pub is : then_ ≡ removed lease place

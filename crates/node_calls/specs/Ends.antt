@@ -4,11 +4,11 @@ use Rattle.std.specs.List.{list_any}
 use Rattle.px_base.specs.Causes.{Rose}
 use Rattle.px_base.specs.PathList.{IsPathList}
 use Rattle.px_base.specs.RefList.{is_name}
-use Rattle.node_rows.specs.Place.{Changes, NodeState, Place, Same, raised}
+use Rattle.node_calls.specs.ReplicaState.{Changes, NodeState, ReplicaState, Same, raised}
 use Rattle.node_calls.specs.declared.node.NodeError.{NodeError}
 use Rattle.node_calls.specs.declared.node.NodeError.TheVariants.{Fault, Memory, Refused}
-use Rattle.node_calls.specs.declared.refusal.NodeRefusal.{NodeRefusal}
-use Rattle.node_calls.specs.declared.refusal.NodeRefusal.TheVariants.{NoRepo}
+use Rattle.px_ops.specs.declared.node_refusal.NodeRefusal.{NodeRefusal}
+use Rattle.px_ops.specs.declared.node_refusal.NodeRefusal.TheVariants.{NoRepo}
 
 -- a node tells before and after, or neither time
 abbrev pub Told : (NodeState → NodeState → Type 0) → Option NodeState → Option NodeState → Type 0
@@ -19,11 +19,11 @@ Told R (Some old) None = ⊥
 
 -- ---- calls that change a repository
 
-module _ {A : Type 0} (refuses : Place → NodeRefusal → Type 0) (does : Place → A → Place → Type 0)
+module _ {A : Type 0} (refuses : ReplicaState → NodeRefusal → Type 0) (does : ReplicaState → A → ReplicaState → Type 0)
     (path : List ℕ) where
   -- the call was done, and answered so
   pub record IsDone (old new : NodeState) (answer : A) : Type 0 where
-    pub place : Place
+    pub place : ReplicaState
     pub does_ : does (old path) answer place
     pub changes : Changes old new path place
 
@@ -54,7 +54,7 @@ module _ (lease : ℕ) (path : List ℕ) where
 
 -- ---- calls that only read
 
-module _ {A : Type 0} (IsAnswer : Place → A → Type 0) (path : List ℕ) where
+module _ {A : Type 0} (IsAnswer : ReplicaState → A → Type 0) (path : List ℕ) where
   abbrev pub ReadEnds : Result A NodeError → NodeState → NodeState → Type 0
   ReadEnds (Ok answer) old new =
       ((old path).held ≡ true) × IsAnswer (old path) answer × Same old new

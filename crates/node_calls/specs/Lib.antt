@@ -1,7 +1,9 @@
 pub mod Calls
 pub mod Ends
 pub mod Faulty
+pub mod Lawful
 pub mod Reads
 pub mod Refusals
-pub mod Sound
+pub mod ReplicaState
 pub mod Steps
+pub mod Whole

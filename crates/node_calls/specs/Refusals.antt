@@ -6,8 +6,8 @@ use Rattle.refstore.specs.declared.prepared.RefRefusal.{RefRefusal}
 use Rattle.refstore.specs.declared.prepared.RefRefusal.TheVariants as refs
 use Rattle.node_calls.specs.declared.node.NodeError.{NodeError}
 use Rattle.node_calls.specs.declared.node.NodeError.TheVariants.{Fault, Memory, Refused}
-use Rattle.node_calls.specs.declared.refusal.NodeRefusal.{NodeRefusal}
-use Rattle.node_calls.specs.declared.refusal.NodeRefusal.TheVariants.{Fenced, NoRepo, RepoExists, NotPrepared, VoteDiffers, Empty, Void, Twice, Stale, Conflict, TooManyRefs, Missing, BadObject, Collision}
+use Rattle.px_ops.specs.declared.node_refusal.NodeRefusal.{NodeRefusal}
+use Rattle.px_ops.specs.declared.node_refusal.NodeRefusal.TheVariants.{Fenced, NoRepo, RepoExists, NotPrepared, VoteDiffers, Empty, Void, Twice, Stale, Conflict, TooManyRefs, Missing, BadObject, Collision}
 
 -- ---- those of the layers below; want of memory is none
 

@@ -5,10 +5,10 @@ use Rattle.px_base.specs.Object.{GitObject}
 use Rattle.px_base.specs.RefList.{IsRefList, References}
 use Rattle.px_base.specs.declared.hash.Hash.{Hash}
 use Rattle.px_base.specs.declared.push.Push.{Push}
-use Rattle.refstore.specs.Hook.{AreUpdates}
+use Rattle.px_base.specs.Update.{AreUpdates}
 use Rattle.node_calls.specs.Calls.{AbortRefuses, Aborts, ApplyRefuses, Applies, CommitRefuses, Commits, CreateRefuses, Creates, PrepareRefuses, Prepares, RemoveRefuses, Removes}
 use Rattle.node_calls.specs.Ends.{Ends, FenceEnds, ListEnds, PingEnds, ReadEnds}
-use Rattle.node_rows.specs.Place.{NodeState, Same, without_ready}
+use Rattle.node_calls.specs.ReplicaState.{NodeState, Same, without_ready}
 use Rattle.node_calls.specs.Reads.{HasObject, HasRefs, IsSnapshot}
 use Rattle.node_calls.specs.declared.node.NodeError.{NodeError}
 use Rattle.node_calls.specs.declared.snapshot.Snapshot.{Snapshot}

@@ -6,8 +6,8 @@ ghost use Rattle.px_base.specs.declared.hash.Hash.{Hash};
 ghost use Rattle.px_base.specs.declared.push.Push.{Push};
 ghost use Rattle.node_calls.specs.Calls.{AbortRefuses, Aborts, ApplyRefuses, Applies, CommitRefuses, Commits, CreateRefuses, Creates, PrepareRefuses, Prepares, RemoveRefuses, Removes};
 ghost use Rattle.node_calls.specs.Ends.{Ends, FenceEnds};
-ghost use Rattle.node_rows.specs.Place.{NodeState, Same, nothing};
-ghost use Rattle.node_calls.specs.Sound.{IsSound, IsSoundPlace};
+ghost use Rattle.node_calls.specs.ReplicaState.{NodeState, Same, nothing};
+ghost use Rattle.node_calls.specs.Whole.{IsWhole, IsWholeReplica};
 ghost use Rattle.node_calls.specs.Steps.{HasNoEffect, IsRun, IsStep};
 ghost use Rattle.node_calls.specs.declared.node.NodeError.{NodeError};
 ghost use Rattle.node_calls.specs.declared.snapshot.Snapshot.{Snapshot};
@@ -33,7 +33,7 @@ pub fn what_is_below_the_fence_changes_nothing()
         → Ends (AbortRefuses lease) (Aborts lease) path result old new
         → HasNoEffect result old new }
     ensures fence { (lease : ℕ) (path : List ℕ) (result : Result (Option ℕ) NodeError)
-        (old new : NodeState) → IsSound old → lease < (old path).fence
+        (old new : NodeState) → IsWhole old → lease < (old path).fence
         → FenceEnds lease path result old new → Same old new }
     ensures apply { (lease : ℕ) (given : Snapshot) (path : List ℕ)
         (result : Result (Unit {0}) NodeError)
@@ -60,7 +60,7 @@ pub fn fences_never_fall()
 /// where a node has nothing, and each call keeps it, whatever it answers, and so does the end of the
 /// node's process.
 pub fn what_is_held_is_closed()
-    ensures first { IsSoundPlace nothing }
-    ensures step { (old new : NodeState) → IsStep old new → IsSound old → IsSound new }
-    ensures run { (old new : NodeState) → IsRun old new → IsSound old → IsSound new }
+    ensures first { IsWholeReplica nothing }
+    ensures step { (old new : NodeState) → IsStep old new → IsWhole old → IsWhole new }
+    ensures run { (old new : NodeState) → IsRun old new → IsWhole old → IsWhole new }
 {}

@@ -5,7 +5,6 @@
 mod faulty;
 mod laws;
 mod node;
-mod refusal;
 mod snapshot;
 
 pub use faulty::{FaultyNode, PlannedFault, When};
@@ -13,5 +12,5 @@ pub use laws::{
     fences_never_fall, what_is_below_the_fence_changes_nothing, what_is_held_is_closed,
 };
 pub use node::{Node, NodeError};
-pub use refusal::NodeRefusal;
+pub use px_ops::NodeRefusal;
 pub use snapshot::Snapshot;

@@ -3,7 +3,7 @@
 ghost use Rattle.std.specs.Prelude.{◌≡◌, ℕ, Option, IfErr};
 ghost use Rattle.node_calls.specs.Calls.{AbortRefuses, Aborts, ApplyRefuses, Applies, CommitRefuses, Commits, CreateRefuses, Creates, PrepareRefuses, Prepares, RemoveRefuses, Removes};
 ghost use Rattle.node_calls.specs.Ends.{Ends, FenceEnds, ListEnds, NodeHasCause, PingEnds, ReadEnds, Told};
-ghost use Rattle.node_rows.specs.Place.{NodeState};
+ghost use Rattle.node_calls.specs.ReplicaState.{NodeState};
 ghost use Rattle.node_calls.specs.Reads.{HasObject, HasRefs, IsSnapshot};
 ghost use Rattle.node_calls.specs.Refusals.{MayAnswer, Abort, Apply, Ask, Commit, Create, Fence, Prepare, Read, Remove};
 

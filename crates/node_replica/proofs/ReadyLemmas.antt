@@ -2,7 +2,7 @@
 use Rattle.std.proofs.Common.{◌≡◌, ℕ, List, [], ◌∷◌, Bool, true, Option, Some, None, refl, sym, ◌∙◌, subst}
 use Rattle.std.specs.Option.{IfSome}
 use Rattle.node_replica.specs.Effects.{MayBeDone}
-use Rattle.node_rows.specs.Place.{Place}
+use Rattle.node_calls.specs.ReplicaState.{ReplicaState}
 use Rattle.px_base.specs.Hash.{IsHash}
 use Rattle.px_base.specs.RefList.{IsRefList, References}
 use Rattle.px_base.specs.declared.hash.Hash.{Hash}
@@ -13,7 +13,7 @@ use Rattle.node_replica.specs.Hashes.{NameHashes}
 use Rattle.node_replica.specs.Replica.{AreReady, IsEmptyUnless, IsReady, push_of}
 use Rattle.node_replica.specs.declared.replica.Ready.{Ready}
 
-pub may_be_done : (place : Place) (ready : Option Ready)
+pub may_be_done : (place : ReplicaState) (ready : Option Ready)
     → AreReady place.refs place.objects place.fence ready → IfSome (push_of ready) (MayBeDone place)
 may_be_done place None are = tt
 may_be_done place (Some ready) are =

@@ -2,9 +2,9 @@
 use Rattle.std.specs.Prelude.{◌≡◌, true, false, Option, None, Some, Result, Ok, Err}
 use Rattle.node_calls.specs.declared.node.NodeError.{NodeError}
 use Rattle.node_calls.specs.declared.node.NodeError.TheVariants.{Fault, Memory, Refused}
-use Rattle.node_rows.specs.Place.{Place}
-use Rattle.node_calls.specs.declared.refusal.NodeRefusal.{NodeRefusal}
-use Rattle.node_calls.specs.declared.refusal.NodeRefusal.TheVariants.{NoRepo}
+use Rattle.node_calls.specs.ReplicaState.{ReplicaState}
+use Rattle.px_ops.specs.declared.node_refusal.NodeRefusal.{NodeRefusal}
+use Rattle.px_ops.specs.declared.node_refusal.NodeRefusal.TheVariants.{NoRepo}
 
 -- the error is that refusal, or memory wants; a test never faults
 abbrev pub IsCause : Option NodeRefusal → NodeError → Type 0
@@ -24,7 +24,7 @@ IsNoRefusal Fault = Unit {0}
 IsNoRefusal Memory = Unit {0}
 
 -- a reading answers where the repository is held, and is refused where it is not
-abbrev pub Reads : {A : Type 0} → (Place → A → Type 0) → Place → Result A NodeError → Type 0
+abbrev pub Reads : {A : Type 0} → (ReplicaState → A → Type 0) → ReplicaState → Result A NodeError → Type 0
 Reads IsAnswer place (Ok answer) = (place.held ≡ true) × IsAnswer place answer
 Reads IsAnswer place (Err (Refused r)) = (place.held ≡ false) × (r ≡ NoRepo)
 Reads IsAnswer place (Err Memory) = Unit {0}

@@ -4,7 +4,7 @@ use Rattle.px_base.specs.declared.hash.Hash.{Hash}
 use Rattle.px_base.specs.declared.push.Push.{Push}
 use Rattle.objstore.specs.Reach.{IsClosed, Objects}
 use Rattle.node_calls.specs.Calls.{Lacks, PrepareRefuses, new_tips, prepare_refusal, with_coming}
-use Rattle.node_rows.specs.Place.{Place}
+use Rattle.node_calls.specs.ReplicaState.{ReplicaState}
 use Rattle.node_calls.specs.declared.node.NodeError.{NodeError}
 use Rattle.node_calls.specs.declared.node.NodeError.TheVariants.{Fault, Memory, Refused}
 use Rattle.node_replica.specs.Replica.{IsReady}
@@ -17,13 +17,13 @@ IsMissing objects tips Memory = Unit {0}
 IsMissing objects tips Fault = ⊥
 
 -- the push may be ready at the place, which is held, once the fence there is its lease
-pub record IsReadyAt (ready : Ready) (place : Place) : Type 0 where
+pub record IsReadyAt (ready : Ready) (place : ReplicaState) : Type 0 where
   pub held : place.held ≡ true
   pub above : place.fence ≤ ready.lease
   pub stands : IsReady place.refs place.objects ready.lease ready
 
 -- the push is accepted, and this is it, ready
-pub record IsPrepared (lease : ℕ) (push : Push) (place : Place) (ready : Ready) : Type 0 where
+pub record IsPrepared (lease : ℕ) (push : Push) (place : ReplicaState) (ready : Ready) : Type 0 where
   pub accepted : prepare_refusal lease push place ≡ None
   pub closed : IsClosed (with_coming place push.objects) (new_tips push.updates)
   pub lease_is : ready.lease ≡ lease
@@ -31,7 +31,7 @@ pub record IsPrepared (lease : ℕ) (push : Push) (place : Place) (ready : Ready
   pub at : IsReadyAt ready place
 
 -- it is refused, or memory wants
-abbrev pub IsNotPrepared : ℕ → Push → Place → NodeError → Type 0
+abbrev pub IsNotPrepared : ℕ → Push → ReplicaState → NodeError → Type 0
 IsNotPrepared lease push place (Refused r) = PrepareRefuses lease push place r
 IsNotPrepared lease push place Memory = Unit {0}
 IsNotPrepared lease push place Fault = ⊥

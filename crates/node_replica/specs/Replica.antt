@@ -5,7 +5,7 @@ use Rattle.objstore.specs.Bundle.{bundle_fault}
 use Rattle.objstore.specs.Entries.{Entries}
 use Rattle.refstore.specs.Hook.{vote_on}
 use Rattle.refstore.specs.Updates.{Fits, after}
-use Rattle.node_rows.specs.Place.{ReadyPush}
+use Rattle.node_calls.specs.ReplicaState.{ReadyPush}
 use Rattle.node_replica.specs.Hashes.{GiveHashes}
 use Rattle.node_replica.specs.declared.replica.Ready.{Ready}
 

@@ -4,8 +4,8 @@ ghost use Rattle.std.specs.Prelude.{◌≡◌, ◌<◌, Err, ◌+◌, ◌≤◌,
 ghost use Rattle.node_calls.specs.Calls.{aborted, abort_refusal, apply_refusal, commit_refusal, created, create_refusal, fenced, new_tips, not_held, prepared, ready_under, removed, with_coming};
 ghost use Rattle.node_replica.specs.Checks.{IsNoRefusal, Reads, Tests};
 ghost use Rattle.node_calls.specs.Reads.{HasObject, HasRefs, IsSnapshot};
-ghost use Rattle.node_rows.specs.Lawful.{IsLawfulPlace};
-ghost use Rattle.node_rows.specs.Place.{Place, nothing, raised};
+ghost use Rattle.node_calls.specs.Lawful.{IsLawfulReplica};
+ghost use Rattle.node_calls.specs.ReplicaState.{ReplicaState, nothing, raised};
 ghost use Rattle.node_replica.specs.Hashes.{NameHashes};
 ghost use Rattle.px_base.specs.Hash.{IsHash};
 ghost use Rattle.node_rows.specs.Reading.{said, with_one, with_ref};
@@ -77,11 +77,11 @@ pub struct Replica {
 }
 
 impl Model for Replica {
-    ghost use Rattle.node_rows.specs.Place.{Place};
+    ghost use Rattle.node_calls.specs.ReplicaState.{ReplicaState};
     ghost use Rattle.node_replica.specs.Hashes.{NameHashes};
     ghost use Rattle.node_replica.specs.Replica.{AreReady, IsEmptyUnless, push_of};
 
-    ghost Value = { Place };
+    ghost Value = { ReplicaState };
 
     ghost view = { λ r. record {
       held = r.held;
@@ -166,7 +166,7 @@ impl Replica {
 
     /// Tells the proof what its types keep.
     pub fn is_lawful(&self)
-        ensures { IsLawfulPlace self.now }
+        ensures { IsLawfulReplica self.now }
     {
         let _refs = self.refs.len();
         let _objects = self.objects.len();

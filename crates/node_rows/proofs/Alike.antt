@@ -8,27 +8,27 @@ use Rattle.objstore.specs.Entries.{Entries, object_at}
 use Rattle.px_keeper.specs.Row.{Rows, row_cmp}
 use Rattle.px_keeper.specs.declared.row_key.RowKey.{RowKey}
 use Rattle.node_rows.proofs.RowLemmas.{IsRow-same}
-use Rattle.node_rows.specs.Place.{NodeState, Place, Same, nothing}
+use Rattle.node_calls.specs.ReplicaState.{NodeState, ReplicaState, Same, nothing}
 use Rattle.node_rows.specs.Rows.{IsRow, StandFor, cut, object_bytes, object_row, ref_row, replica_row, row_of}
 
 -- the two places are one but for the push that is ready
-pub record IsAlike (old new : Place) : Type 0 where
+pub record IsAlike (old new : ReplicaState) : Type 0 where
   pub held : new.held ≡ old.held
   pub refs : new.refs ≡ old.refs
   pub objects : new.objects ≡ old.objects
   pub fence : new.fence ≡ old.fence
   pub last : new.last ≡ old.last
 
-pub alike_same : (old new : Place) → new ≡ old → IsAlike old new
+pub alike_same : (old new : ReplicaState) → new ≡ old → IsAlike old new
 alike_same old new same = record {
-  held = ap (λ (p : Place). p.held) same;
-  refs = ap (λ (p : Place). p.refs) same;
-  objects = ap (λ (p : Place). p.objects) same;
-  fence = ap (λ (p : Place). p.fence) same;
-  last = ap (λ (p : Place). p.last) same;
+  held = ap (λ (p : ReplicaState). p.held) same;
+  refs = ap (λ (p : ReplicaState). p.refs) same;
+  objects = ap (λ (p : ReplicaState). p.objects) same;
+  fence = ap (λ (p : ReplicaState). p.fence) same;
+  last = ap (λ (p : ReplicaState). p.last) same;
 }
 
-replica_alike : (old new : Place) → IsAlike old new → replica_row new ≡ replica_row old
+replica_alike : (old new : ReplicaState) → IsAlike old new → replica_row new ≡ replica_row old
 replica_alike old new alike =
     ap (λ (f : ℕ). replica_row (record new { fence = f })) alike.fence
     ∙ ap (λ (l : Option ℕ). replica_row (record new { fence = old.fence; last = l })) alike.last

@@ -14,8 +14,8 @@ use Rattle.px_keeper.specs.declared.row_key.RowKey.{RowKey}
 use Rattle.node_rows.proofs.Before.{fewer_before}
 use Rattle.node_rows.proofs.RowValues.{held_path, held_stands, ref_stands, touched_path, value_is}
 use Rattle.node_rows.specs.BadRow.{AreGood, IsGood, IsHeldBy, IsObjectRow, IsRefRow, IsReplicaRow, StandsBefore, object, reference, replica}
-use Rattle.node_rows.specs.Lawful.{IsLawful}
-use Rattle.node_rows.specs.Place.{NodeState}
+use Rattle.node_calls.specs.Lawful.{IsLawful}
+use Rattle.node_calls.specs.ReplicaState.{NodeState}
 use Rattle.node_rows.specs.Rows.{IsRow, StandFor, cut, is_untouched, object_bytes, object_row, ref_row, replica_bytes, replica_row, row_of}
 
 -- what is not there where the repository is not held, and is there, is in one that is held

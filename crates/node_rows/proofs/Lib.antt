@@ -3,11 +3,10 @@ pub mod Before
 pub mod FirstBad
 pub mod GoodRows
 pub mod KeyLemmas
-pub mod LawfulPlaces
+pub mod LawfulReplicas
 pub mod ObjectRows
 pub mod OneNode
 pub mod OneRef
-pub mod OptionLemmas
 pub mod ReadBytes
 pub mod ReadHeld
 pub mod ReadObject
@@ -21,4 +20,3 @@ pub mod RowLemmas
 pub mod RowValues
 pub mod SortedLists
 pub mod Stands
-pub mod UpdateLemmas

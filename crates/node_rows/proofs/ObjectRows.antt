@@ -14,7 +14,7 @@ use Rattle.objstore.specs.Entries.{Entries, is_among, is_id, object_at, own_name
 use Rattle.px_keeper.specs.Change.{Names}
 use Rattle.px_keeper.specs.Row.{row_key}
 use Rattle.node_rows.proofs.RowLemmas.{Says, Says-gone, Says-object}
-use Rattle.node_rows.specs.Place.{NodeState}
+use Rattle.node_calls.specs.ReplicaState.{NodeState}
 use Rattle.node_rows.specs.Rows.{under}
 use Rattle.node_rows.specs.Writes.{coming_changes, object_change, objects_gone}
 

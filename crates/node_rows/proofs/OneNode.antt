@@ -15,14 +15,14 @@ use Rattle.node_rows.proofs.RowBytes.{OneReplica, one_object, one_replica}
 use Rattle.node_rows.proofs.RowValues.{HasNothing, held_path, object_stands, ref_stands, replica_stands, untouched_is}
 use Rattle.node_rows.proofs.SortedLists.{one_list}
 use Rattle.node_rows.proofs.Alike.{IsAlike}
-use Rattle.node_rows.specs.Lawful.{IsLawful, IsLawfulPlace}
-use Rattle.node_rows.specs.Place.{NodeState, Place, without_ready}
+use Rattle.node_calls.specs.Lawful.{IsLawful, IsLawfulReplica}
+use Rattle.node_calls.specs.ReplicaState.{NodeState, ReplicaState, without_ready}
 use Rattle.node_rows.specs.Rows.{IsRow, StandFor, is_untouched, object_bytes, replica_bytes, replica_row}
 
 -- ---- the row of table 6
 
 -- the bytes of a place where nothing was ever done
-nothing_bytes : (place : Place) → HasNothing place
+nothing_bytes : (place : ReplicaState) → HasNothing place
     → replica_bytes 0 None false ≡ replica_bytes place.fence place.last place.held
 nothing_bytes place has = sym (
     ap (λ (f : ℕ). replica_bytes f place.last place.held) has.fence
@@ -30,7 +30,7 @@ nothing_bytes place has = sym (
     ∙ ap (λ (h : Bool). replica_bytes 0 None h) has.held)
 
 -- it is there and tells of the place, or it is not and nothing was ever done
-tells : (path : List ℕ) (place : Place) (value : Option (List ℕ))
+tells : (path : List ℕ) (place : ReplicaState) (value : Option (List ℕ))
     → IsRow (row_key 6 path) (replica_row place) value
     → ((value ≡ None) × HasNothing place)
     ⊎ (value ≡ Some (replica_bytes place.fence place.last place.held))
@@ -47,7 +47,7 @@ tells path place value is = at (is_untouched place) refl value is
     at false touched v is = inr is
 
 -- so it tells of one fence, one last lease and one flag
-one_told : (place other : Place) → IsLawfulPlace place → IsLawfulPlace other → (path : List ℕ)
+one_told : (place other : ReplicaState) → IsLawfulReplica place → IsLawfulReplica other → (path : List ℕ)
     (value : Option (List ℕ)) → IsRow (row_key 6 path) (replica_row place) value
     → IsRow (row_key 6 path) (replica_row other) value
     → OneReplica place.fence other.fence place.last other.last place.held other.held
@@ -87,7 +87,7 @@ one_id id other same = ap (λ (b : List ℕ). let h : Hash = record { 0 = b } in
 -- ---- nodes
 
 -- two places that are alike are one without the push that is ready
-alike_one : (old new : Place) → IsAlike old new → without_ready new ≡ without_ready old
+alike_one : (old new : ReplicaState) → IsAlike old new → without_ready new ≡ without_ready old
 alike_one old new alike =
     ap (λ (h : Bool). without_ready (record new { held = h })) alike.held
     ∙ ap (λ (r : References). without_ready (record new { held = old.held; refs = r })) alike.refs

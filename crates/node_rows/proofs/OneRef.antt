@@ -21,8 +21,8 @@ use Rattle.refstore.proofs.Under.{Begins-from_test}
 use Rattle.refstore.specs.Updates.{Fits, after, creation, first_fault, have, is_among, least_conflict, too_many, update_conflict, update_fault}
 use Rattle.refstore.specs.declared.prepared.RefRefusal.{RefRefusal}
 use Rattle.refstore.specs.declared.prepared.RefRefusal.TheVariants.{Conflict, Stale, TooManyRefs, Twice, Void}
-use Rattle.node_rows.proofs.OptionLemmas.{no_first}
-use Rattle.node_rows.proofs.UpdateLemmas.{IsRefList-fits}
+use Rattle.node_calls.proofs.OptionLemmas.{no_first}
+use Rattle.node_calls.proofs.UpdateLemmas.{IsRefList-fits}
 
 -- ---- names
 

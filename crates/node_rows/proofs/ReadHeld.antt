@@ -7,7 +7,7 @@ use Rattle.std.proofs.lemmas.Option.{same_Some}
 use Rattle.px_base.specs.RepoPath.{IsRepoPath}
 use Rattle.px_keeper.specs.Row.{Rows, row_at, row_key}
 use Rattle.node_rows.specs.BadRow.{IsHeldBy}
-use Rattle.node_rows.specs.Place.{NodeState, Place}
+use Rattle.node_calls.specs.ReplicaState.{NodeState, ReplicaState}
 use Rattle.node_rows.specs.Reading.{IsReadTo, is_read}
 use Rattle.node_rows.specs.Rows.{IsRow, flag, is_untouched, last_bytes, replica_bytes, replica_row}
 
@@ -38,7 +38,7 @@ module _ (rows : Rows) (table : ℕ) (last : Option (List ℕ)) (node : NodeStat
   -- where the node holds the repository, the row says so
   pub IsHeldBy-held : (node path).held ≡ true → IsHeldBy rows path
   IsHeldBy-held held =
-      let place : Place = node path in
+      let place : ReplicaState = node path in
       let touched : is_untouched place ≡ false =
       and_right _ (not place.held) (not_from_true place.held held) in
       record {
@@ -66,5 +66,5 @@ module _ (rows : Rows) (table : ℕ) (last : Option (List ℕ)) (node : NodeStat
   -- the path of one that is held is a path
   pub held_path : (node path).held ≡ true → IsRepoPath path
   held_path held = ⊎_elim (λ is. is)
-      (λ none. absurd (false≢true (ap (λ (p : Place). p.held) (sym none) ∙ held)))
+      (λ none. absurd (false≢true (ap (λ (p : ReplicaState). p.held) (sym none) ∙ held)))
       (reads.lawful.paths path)

@@ -14,14 +14,14 @@ use Rattle.px_keeper.specs.Keeper.{IsNext}
 use Rattle.px_keeper.specs.Row.{Rows, row_key}
 use Rattle.px_keeper.specs.declared.row_key.RowKey.{RowKey}
 use Rattle.node_rows.proofs.KeyLemmas.{IsCut-cut}
-use Rattle.node_rows.proofs.LawfulPlaces.{IsLawful-changes, unready_changes}
-use Rattle.node_rows.proofs.OptionLemmas.{none_mapped}
+use Rattle.node_rows.proofs.LawfulReplicas.{IsLawful-changes, unready_changes}
+use Rattle.node_calls.proofs.OptionLemmas.{none_mapped}
 use Rattle.node_rows.proofs.ReadHeld.{IsHeldBy-held, held_by_row, held_path}
 use Rattle.node_rows.proofs.ReadRows.{first_bad, next_has_none, read_more}
 use Rattle.node_rows.proofs.RowLemmas.{IsRow-same, named_or_same}
 use Rattle.node_rows.specs.BadRow.{IsFirstBad, IsGood, IsObjectRow, object, reference, replica}
-use Rattle.node_rows.specs.Lawful.{IsLawfulPlace}
-use Rattle.node_rows.specs.Place.{Changes, NodeState, Place}
+use Rattle.node_calls.specs.Lawful.{IsLawfulReplica}
+use Rattle.node_calls.specs.ReplicaState.{Changes, NodeState, ReplicaState}
 use Rattle.node_rows.specs.Reading.{IsReadTo, ObjectComes, with_one}
 use Rattle.node_rows.specs.Rows.{object_bytes, object_row, replica_row, row_of, under}
 
@@ -39,7 +39,7 @@ module _ (old : NodeState) (key value path : List ℕ) (id : Hash) (one : GitObj
       ∙ ap (λ (h : Hash). cond (is_id h q) (Some one) (object_at store q)) comes.named.name
 
   -- so each is small
-  small_more : (lawful : IsLawfulPlace (old path)) (q : Hash) (found : GitObject)
+  small_more : (lawful : IsLawfulReplica (old path)) (q : Hash) (found : GitObject)
       → object_at (with_object store one) q ≡ Some found → IsSmall found.content
   small_more lawful q found is = at (is_id id q) (sym (takes q) ∙ is)
     where
@@ -51,8 +51,8 @@ module _ (old : NodeState) (key value path : List ℕ) (id : Hash) (one : GitObj
       at false is = lawful.small q found is
 
   -- it has what a repository may have
-  IsLawfulPlace-object : IsLawfulPlace (old path) → IsLawfulPlace (with_one one (old path))
-  IsLawfulPlace-object lawful = record {
+  IsLawfulReplica-object : IsLawfulReplica (old path) → IsLawfulReplica (with_one one (old path))
+  IsLawfulReplica-object lawful = record {
     fence = lawful.fence;
     last = lawful.last;
     refs = lawful.refs;
@@ -67,7 +67,7 @@ module _ (old : NodeState) (key value path : List ℕ) (id : Hash) (one : GitObj
     -- the row is that of the object
     row_of_object : row_of new (row_key 8 key) ≡ Some value
     row_of_object = ap (object_row new) comes.parts
-        ∙ ap (λ (p : Place). option_map object_bytes (object_at p.objects id)) changes.here
+        ∙ ap (λ (p : ReplicaState). option_map object_bytes (object_at p.objects id)) changes.here
         ∙ ap (option_map object_bytes) (takes id
         ∙ cond-true (is_id id id) (Some one) (object_at store id) (ids_laws.refl id))
         ∙ sym (ap Some comes.is)
@@ -76,11 +76,11 @@ module _ (old : NodeState) (key value path : List ℕ) (id : Hash) (one : GitObj
     rest_of_object : (row : RowKey) → (row_key 8 key ≡ row) ⊎ (row_of new row ≡ row_of old row)
     rest_of_object = named_or_same old new path changes.others (λ row. row_key 8 key ≡ row)
         (inr (ap replica_row changes.here))
-        (λ name. inr (ap (λ (p : Place). ref_at p.refs name) changes.here))
+        (λ name. inr (ap (λ (p : ReplicaState). ref_at p.refs name) changes.here))
         (λ q. ⊎_elim
         (λ same. inl (ap (row_key 8) ((IsCut-cut key (path, id.0) comes.parts).key_is
         ∙ ap (λ (h : Hash). under path h.0) (one_id id q same))))
-        (λ differs. inr (ap (λ (p : Place). object_at p.objects q) changes.here
+        (λ differs. inr (ap (λ (p : ReplicaState). object_at p.objects q) changes.here
         ∙ stays store (with_object store one) id one takes q differs))
         (cases_Bool (is_id id q)))
 
@@ -121,7 +121,7 @@ module _ (rows : Rows) (last : Option (List ℕ)) (old : NodeState) (key value :
       → ObjectComes old key value path id one → Changes old new path (with_one one (old path))
       → IsReadTo rows 8 (Some key) new
   read_object new path id one comes changes =
-      let place : Place = with_one one (old path) in
+      let place : ReplicaState = with_one one (old path) in
       read_more rows 8 last key value next old new reads
       (IsRow-same (row_key 8 key) (row_of new (row_key 8 key)) (Some value)
       (sym (row_of_object old key value path id one comes new changes)))
@@ -129,7 +129,7 @@ module _ (rows : Rows) (last : Option (List ℕ)) (old : NodeState) (key value :
       (object refl (IsObjectRow-comes path id one comes))
       (IsLawful-changes old new path place changes reads.lawful
       (held_path rows 8 last old reads (omega arith) path comes.held)
-      (IsLawfulPlace-object old key value path id one comes (reads.lawful.places path)))
+      (IsLawfulReplica-object old key value path id one comes (reads.lawful.places path)))
       (unready_changes old new path place changes reads.unready (reads.unready path))
 
   -- a row of which no object comes is the first bad one

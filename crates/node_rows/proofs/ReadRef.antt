@@ -19,15 +19,15 @@ use Rattle.px_keeper.specs.Keeper.{IsNext}
 use Rattle.px_keeper.specs.Row.{Rows, row_at, row_key}
 use Rattle.px_keeper.specs.declared.row_key.RowKey.{RowKey}
 use Rattle.node_rows.proofs.KeyLemmas.{IsCut-cut, cut-under}
-use Rattle.node_rows.proofs.LawfulPlaces.{IsLawful-changes, unready_changes}
+use Rattle.node_rows.proofs.LawfulReplicas.{IsLawful-changes, unready_changes}
 use Rattle.node_rows.proofs.OneRef.{Fits-creation, IsRefList-created, done, fits_apart, fits_few, fits_some, ref_at-created}
-use Rattle.node_rows.proofs.OptionLemmas.{none_mapped, some_mapped}
+use Rattle.node_calls.proofs.OptionLemmas.{none_mapped, some_mapped}
 use Rattle.node_rows.proofs.ReadHeld.{IsHeldBy-held, held_by_row, held_path}
 use Rattle.node_rows.proofs.ReadRows.{below_is_read, below_next, first_bad, found_where, next_has_none, read_more, row_exact}
 use Rattle.node_rows.proofs.RowLemmas.{IsRow-same, named_or_same}
 use Rattle.node_rows.specs.BadRow.{IsFirstBad, IsGood, IsRefRow, StandsBefore, object, reference, replica}
-use Rattle.node_rows.specs.Lawful.{IsLawfulPlace}
-use Rattle.node_rows.specs.Place.{Changes, NodeState, Place}
+use Rattle.node_calls.specs.Lawful.{IsLawfulReplica}
+use Rattle.node_calls.specs.ReplicaState.{Changes, NodeState, ReplicaState}
 use Rattle.node_rows.specs.Reading.{IsReadTo, RefComes, is_read, is_up_to, read_so_far, with_ref}
 use Rattle.node_rows.specs.Rows.{cut, ref_row, replica_row, row_of, under}
 
@@ -49,7 +49,7 @@ all_from_each P (name ∷ names) each = (
 -- ---- a repository that has one reference more
 
 module _ (old : NodeState) (key value path name : List ℕ) (id : Hash)
-    (comes : RefComes old key value path name id) (lawful : IsLawfulPlace (old path)) where
+    (comes : RefComes old key value path name id) (lawful : IsLawfulReplica (old path)) where
   -- the references that it had
   abbrev refs : References
   refs = (old path).refs
@@ -71,8 +71,8 @@ module _ (old : NodeState) (key value path name : List ℕ) (id : Hash)
       at false is = lawful.ids q h is
 
   -- it has what a repository may have
-  IsLawfulPlace-ref : IsLawfulPlace (with_ref name id (old path))
-  IsLawfulPlace-ref = record {
+  IsLawfulReplica-ref : IsLawfulReplica (with_ref name id (old path))
+  IsLawfulReplica-ref = record {
     fence = lawful.fence;
     last = lawful.last;
     refs = IsRefList-created refs name id lawful.refs comes.fits comes.named;
@@ -86,7 +86,7 @@ module _ (old : NodeState) (key value path name : List ℕ) (id : Hash)
     -- the row is that of the reference
     row_of_ref : row_of new (row_key 7 key) ≡ Some value
     row_of_ref = ap (ref_row new) comes.parts
-        ∙ ap (λ (p : Place). option_map (λ (h : Hash). h.0) (ref_at p.refs name)) changes.here
+        ∙ ap (λ (p : ReplicaState). option_map (λ (h : Hash). h.0) (ref_at p.refs name)) changes.here
         ∙ ap (option_map (λ (h : Hash). h.0)) (created name
         ∙ cond-true (is_name name name) (Some id) (ref_at refs name) (names_laws.refl name))
         ∙ sym (ap Some comes.is)
@@ -98,10 +98,10 @@ module _ (old : NodeState) (key value path name : List ℕ) (id : Hash)
         (λ q. ⊎_elim
         (λ same. inl (ap (row_key 7) ((IsCut-cut key (path, name) comes.parts).key_is
         ∙ ap (under path) (one_name name q same))))
-        (λ differs. inr (ap (λ (p : Place). ref_at p.refs q) changes.here ∙ created q
+        (λ differs. inr (ap (λ (p : ReplicaState). ref_at p.refs q) changes.here ∙ created q
         ∙ cond-false (is_name name q) (Some id) (ref_at refs q) differs))
         (cases_Bool (is_name name q)))
-        (λ q. inr (ap (λ (p : Place). object_at p.objects q) changes.here))
+        (λ q. inr (ap (λ (p : ReplicaState). object_at p.objects q) changes.here))
 
 -- ---- a row that is next
 
@@ -207,8 +207,8 @@ module _ (rows : Rows) (last : Option (List ℕ)) (old : NodeState) (key value :
       → RefComes old key value path name id → Changes old new path (with_ref name id (old path))
       → IsReadTo rows 7 (Some key) new
   read_ref new path name id comes changes =
-      let place : Place = with_ref name id (old path) in
-      let lawful : IsLawfulPlace (old path) = reads.lawful.places path in
+      let place : ReplicaState = with_ref name id (old path) in
+      let lawful : IsLawfulReplica (old path) = reads.lawful.places path in
       read_more rows 7 last key value next old new reads
       (IsRow-same (row_key 7 key) (row_of new (row_key 7 key)) (Some value)
       (sym (row_of_ref old key value path name id comes lawful new changes)))
@@ -216,7 +216,7 @@ module _ (rows : Rows) (last : Option (List ℕ)) (old : NodeState) (key value :
       (reference refl (IsRefRow-comes path name id comes))
       (IsLawful-changes old new path place changes reads.lawful
       (held_path rows 7 last old reads (omega arith) path comes.held)
-      (IsLawfulPlace-ref old key value path name id comes lawful))
+      (IsLawfulReplica-ref old key value path name id comes lawful))
       (unready_changes old new path place changes reads.unready (reads.unready path))
 
   -- a row of which no reference comes is the first bad one

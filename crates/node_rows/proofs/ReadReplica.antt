@@ -5,11 +5,11 @@ use Rattle.px_base.specs.RefList.{References, ref_at}
 use Rattle.objstore.specs.Entries.{Entries, object_at}
 use Rattle.px_keeper.specs.Keeper.{IsNext}
 use Rattle.px_keeper.specs.Row.{Rows, row_key}
-use Rattle.node_rows.proofs.LawfulPlaces.{IsLawful-changes, IsLawfulPlace-said, unready_changes}
+use Rattle.node_rows.proofs.LawfulReplicas.{IsLawful-changes, IsLawfulReplica-said, unready_changes}
 use Rattle.node_rows.proofs.ReadRows.{first_bad, next_has_none, read_more}
 use Rattle.node_rows.proofs.RowLemmas.{named_or_same}
 use Rattle.node_rows.specs.BadRow.{IsFirstBad, IsGood, IsReplicaRow, object, reference, replica}
-use Rattle.node_rows.specs.Place.{Changes, NodeState, Place}
+use Rattle.node_calls.specs.ReplicaState.{Changes, NodeState, ReplicaState}
 use Rattle.node_rows.specs.Reading.{IsReadTo, said}
 use Rattle.node_rows.specs.Rows.{IsRow, is_untouched, replica_bytes, replica_row}
 
@@ -62,16 +62,16 @@ module _ (rows : Rows) (last : Option (List ℕ)) (old : NodeState) (key value :
       → Changes old new key (said is.fence is.last is.held) → IsReadTo rows 6 (Some key) new
   read_replica new is changes =
       read_more rows 6 last key value next old new reads
-      (subst (λ (p : Place). IsRow (row_key 6 key) (replica_row p) (Some value))
+      (subst (λ (p : ReplicaState). IsRow (row_key 6 key) (replica_row p) (Some value))
       (sym changes.here) (row_of_said key value is))
       (named_or_same old new key changes.others (λ row. row_key 6 key ≡ row) (inl refl)
-      (λ name. inr (ap (λ (p : Place). ref_at p.refs name) changes.here
+      (λ name. inr (ap (λ (p : ReplicaState). ref_at p.refs name) changes.here
       ∙ sym (ap (λ (r : References). ref_at r name) nothing_there.0)))
-      (λ id. inr (ap (λ (p : Place). object_at p.objects id) changes.here
+      (λ id. inr (ap (λ (p : ReplicaState). object_at p.objects id) changes.here
       ∙ sym (ap (λ (s : Entries). object_at s id) nothing_there.1))))
       (replica refl is)
       (IsLawful-changes old new key (said is.fence is.last is.held) changes reads.lawful is.lawful
-      (IsLawfulPlace-said is.fence is.last is.held is.fence_fits is.last_fits))
+      (IsLawfulReplica-said is.fence is.last is.held is.fence_fits is.last_fits))
       (unready_changes old new key (said is.fence is.last is.held) changes reads.unready refl)
 
   -- a row that tells of no repository is the first bad one

@@ -14,8 +14,8 @@ use Rattle.px_keeper.specs.Keeper.{IsAbove, IsNext}
 use Rattle.px_keeper.specs.Row.{Rows, is_row, row_at, row_cmp, row_key}
 use Rattle.px_keeper.specs.declared.row_key.RowKey.{RowKey}
 use Rattle.node_rows.specs.BadRow.{IsFirstBad, IsGood}
-use Rattle.node_rows.specs.Lawful.{IsLawful}
-use Rattle.node_rows.specs.Place.{NodeState}
+use Rattle.node_calls.specs.Lawful.{IsLawful}
+use Rattle.node_calls.specs.ReplicaState.{NodeState}
 use Rattle.node_rows.specs.Reading.{IsReadTo, is_read, is_up_to, read_so_far}
 use Rattle.node_rows.specs.Rows.{AreRowsOf, IsRow, row_of}
 

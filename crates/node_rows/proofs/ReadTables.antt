@@ -8,11 +8,11 @@ use Rattle.px_keeper.specs.Keeper.{IsAbove, IsNext}
 use Rattle.px_keeper.specs.Row.{Rows, row_at, row_cmp, row_key}
 use Rattle.px_keeper.specs.declared.row_key.RowKey.{RowKey}
 use Rattle.node_rows.proofs.Alike.{alike_same, rows_alike, rows_of_nothing}
-use Rattle.node_rows.proofs.LawfulPlaces.{IsLawfulPlace-said}
+use Rattle.node_rows.proofs.LawfulReplicas.{IsLawfulReplica-said}
 use Rattle.node_rows.proofs.ReadRows.{above_from_not, first_bad, found_where}
 use Rattle.node_rows.specs.BadRow.{IsFirstBad, IsGood, object, reference, replica}
-use Rattle.node_rows.specs.Lawful.{IsLawfulPlace}
-use Rattle.node_rows.specs.Place.{NodeState, Place, Same, nothing}
+use Rattle.node_calls.specs.Lawful.{IsLawfulReplica}
+use Rattle.node_calls.specs.ReplicaState.{NodeState, ReplicaState, Same, nothing}
 use Rattle.node_rows.specs.Reading.{IsReadTo, is_read, is_up_to, read_so_far}
 use Rattle.node_rows.specs.Rows.{IsRow, StandFor, row_of}
 
@@ -32,11 +32,11 @@ read_nothing rows node none = record {
       ∙ sym (cond-false (is_read 0 None row) (get rows row) None (none_read row)))
       (rows_of_nothing node none row small);
   lawful = record {
-    places = λ path. subst IsLawfulPlace (sym (none path))
-        (IsLawfulPlace-said 0 None false (omega arith) tt);
+    places = λ path. subst IsLawfulReplica (sym (none path))
+        (IsLawfulReplica-said 0 None false (omega arith) tt);
     paths = λ path. inr (none path);
   };
-  unready = λ path. ap (λ (p : Place). p.ready) (none path);
+  unready = λ path. ap (λ (p : ReplicaState). p.ready) (none path);
 }
 
 -- ---- the end of a table
@@ -99,11 +99,11 @@ read_same rows table last old new reads same = record {
       (sym (rows_alike old new (λ path. alike_same (old path) (new path) (same path)) row))
       (reads.are row small);
   lawful = record {
-    places = λ path. subst IsLawfulPlace (sym (same path)) (reads.lawful.places path);
-    paths = λ path. subst (λ (p : Place). IsRepoPath path ⊎ (p ≡ nothing)) (sym (same path))
+    places = λ path. subst IsLawfulReplica (sym (same path)) (reads.lawful.places path);
+    paths = λ path. subst (λ (p : ReplicaState). IsRepoPath path ⊎ (p ≡ nothing)) (sym (same path))
         (reads.lawful.paths path);
   };
-  unready = λ path. ap (λ (p : Place). p.ready) (same path) ∙ reads.unready path;
+  unready = λ path. ap (λ (p : ReplicaState). p.ready) (same path) ∙ reads.unready path;
 }
 
 -- ---- the end of all

@@ -18,9 +18,9 @@ use Rattle.refstore.specs.declared.prepared.RefRefusal.TheVariants.{Void, Twice,
 use Rattle.refstore.specs.Updates.{Fits, after, first_fault, given, have, is_among, names_of, update_fault}
 use Rattle.px_keeper.specs.Change.{Names, row_in}
 use Rattle.px_keeper.specs.Row.{row_key}
-use Rattle.node_rows.proofs.OptionLemmas.{no_first, no_second}
+use Rattle.node_calls.proofs.OptionLemmas.{no_first, no_second}
 use Rattle.node_rows.proofs.RowLemmas.{Names-back, Names-front, Says, Says-ref, all_append}
-use Rattle.node_rows.specs.Place.{NodeState}
+use Rattle.node_calls.specs.ReplicaState.{NodeState}
 use Rattle.node_rows.specs.Rows.{under}
 use Rattle.node_rows.specs.Writes.{gone_changes, names, put_changes, ref_change, refs_changes, update_changes}
 use Rattle.refstore.proofs.Names.{one_name, names_laws}

@@ -15,7 +15,8 @@ use Rattle.px_keeper.specs.Row.{Rows, is_row, row_key}
 use Rattle.px_keeper.specs.declared.change.Change.{Change}
 use Rattle.px_keeper.specs.declared.row_key.RowKey.{RowKey}
 use Rattle.node_rows.proofs.KeyLemmas.{IsCut-cut, cut_path}
-use Rattle.node_rows.specs.Place.{NodeState, Place}
+use Rattle.node_calls.proofs.ReplicaLemmas.{this_or_other}
+use Rattle.node_calls.specs.ReplicaState.{NodeState, ReplicaState}
 use Rattle.node_rows.specs.Rows.{IsRow, StandFor, cut, is_untouched, object_bytes, object_row, ref_row, replica_bytes, replica_row, row_of, under}
 use Rattle.node_rows.specs.Writes.{object_change, object_gone, ref_change, replica_change}
 use Rattle.refstore.proofs.Names.{one_name, names_laws}
@@ -126,16 +127,6 @@ module _ (new : NodeState) (path : List ℕ) (lawful : IsRepoPath path) where
   Says-gone id is = sym (ap (object_row new) (cut_path path id.0 lawful)
       ∙ ap (option_map object_bytes) is)
 
--- a path is this one, or another one, of which nothing changed
-pub this_or_other : (old new : NodeState) (path : List ℕ)
-    → ((other : List ℕ) → other ≢ path → new other ≡ old other) → (q : List ℕ)
-    → (path ≡ q) ⊎ (new q ≡ old q)
-this_or_other old new path others q = ⊎_elim (λ t. inl (one_name path q t))
-    (λ f. inr (others q (λ same. absurd (
-    let t : is_name path q ≡ true = ap (is_name path) same ∙ names_laws.refl path in
-    cc))))
-    (cases_Bool (is_name path q))
-
 -- each row is named, or is the same in both, where those of the repository are
 module _ (old new : NodeState) (path : List ℕ)
     (others : (other : List ℕ) → other ≢ path → new other ≡ old other) (Named : RowKey → Type 0)
@@ -164,7 +155,7 @@ module _ (old new : NodeState) (path : List ℕ)
       ≡ option_map (λ (h : Hash). h.0) (ref_at (old q).refs parts.1)) same
       (ap (option_map (λ (h : Hash). h.0)) alike)))
       (refs parts.1))
-      (λ alike. inr (ap (λ (p : Place).
+      (λ alike. inr (ap (λ (p : ReplicaState).
       option_map (λ (h : Hash). h.0) (ref_at p.refs parts.1)) alike))
       (this_or_other old new path others parts.0)
 
@@ -181,7 +172,7 @@ module _ (old new : NodeState) (path : List ℕ)
       ≡ option_map object_bytes (object_at (old q).objects id)) same
       (ap (option_map object_bytes) alike)))
       (objects id))
-      (λ alike. inr (ap (λ (p : Place). option_map object_bytes (object_at p.objects id)) alike))
+      (λ alike. inr (ap (λ (p : ReplicaState). option_map object_bytes (object_at p.objects id)) alike))
       (this_or_other old new path others parts.0)
 
   pub named_or_same : (row : RowKey) → Named row ⊎ (row_of new row ≡ row_of old row)

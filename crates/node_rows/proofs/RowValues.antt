@@ -9,14 +9,14 @@ use Rattle.objstore.specs.Entries.{object_at}
 use Rattle.px_keeper.specs.Row.{Rows, row_at, row_key}
 use Rattle.px_keeper.specs.declared.row_key.RowKey.{RowKey}
 use Rattle.node_rows.proofs.KeyLemmas.{cut_path}
-use Rattle.node_rows.specs.Lawful.{IsLawful}
-use Rattle.node_rows.specs.Place.{NodeState, Place}
+use Rattle.node_calls.specs.Lawful.{IsLawful}
+use Rattle.node_calls.specs.ReplicaState.{NodeState, ReplicaState}
 use Rattle.node_rows.specs.Rows.{IsRow, StandFor, is_untouched, object_bytes, object_row, ref_row, replica_bytes, replica_row, under}
 
 -- ---- places
 
 -- what the row of a place says where nothing was ever done
-pub record HasNothing (place : Place) : Type 0 where
+pub record HasNothing (place : ReplicaState) : Type 0 where
   pub fence : place.fence ≡ 0
   pub last : place.last ≡ None
   pub held : place.held ≡ false
@@ -32,7 +32,7 @@ not_held true is = absurd (cc)
 not_held false is = refl
 
 -- the row of a place of which the test holds says this
-pub untouched_is : (place : Place) → is_untouched place ≡ true → HasNothing place
+pub untouched_is : (place : ReplicaState) → is_untouched place ≡ true → HasNothing place
 untouched_is place untouched =
     let both = and_parts ((place.fence == 0) && is_none place.last) (not place.held) untouched in
     let first = and_parts (place.fence == 0) (is_none place.last) both.0 in
@@ -50,7 +50,7 @@ touched_path node path lawful touched =
     (lawful.paths path)
 
 -- as it was where the repository is held
-held_touched : (place : Place) → place.held ≡ true → is_untouched place ≡ false
+held_touched : (place : ReplicaState) → place.held ≡ true → is_untouched place ≡ false
 held_touched place held =
     and_right ((place.fence == 0) && is_none place.last) (not place.held) (ap not held)
 

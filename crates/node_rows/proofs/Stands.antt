@@ -19,19 +19,19 @@ use Rattle.px_keeper.specs.declared.change.Change.{Change}
 use Rattle.node_rows.proofs.ObjectRows.{coming_name, coming_say, gone_name, gone_say}
 use Rattle.node_rows.proofs.RefRows.{refs_name, refs_say, updates_name, updates_say}
 use Rattle.node_rows.proofs.RowLemmas.{Names-back, Names-front, Says, Says-replica, StandFor-applied, all_append, named_or_same}
-use Rattle.node_rows.specs.Place.{Changes, NodeState, Place, ReadyPush}
+use Rattle.node_calls.specs.ReplicaState.{Changes, NodeState, ReplicaState, ReadyPush}
 use Rattle.node_rows.specs.Rows.{StandFor, is_untouched, under}
 use Rattle.node_rows.specs.Writes.{applied_rows, coming_changes, committed_rows, emptied_rows, fenced_rows, objects_gone, refs_changes, replica_change, update_changes}
 
 -- where the fence is above 0, something was done
-pub touched_fence : (place : Place) (fence : ℕ) → place.fence ≡ fence → 0 < fence
+pub touched_fence : (place : ReplicaState) (fence : ℕ) → place.fence ≡ fence → 0 < fence
     → is_untouched place ≡ false
 touched_fence place fence is above =
     and_left ((place.fence == 0) && is_none place.last) (not place.held)
     (and_left (place.fence == 0) (is_none place.last)
     (ne_eqb place.fence 0 (λ e. absurd (omega (arith, e, is, above)))))
 
-touched : (place : Place) (lease : ℕ) → place.fence ≡ lease + 1 → is_untouched place ≡ false
+touched : (place : ReplicaState) (lease : ℕ) → place.fence ≡ lease + 1 → is_untouched place ≡ false
 touched place lease is = touched_fence place (lease + 1) is (omega arith)
 
 -- the names of no references ascend
@@ -39,14 +39,14 @@ none_ascend : Ascends []
 unfolding IsStrictlySortedBy
 none_ascend = tt
 
-module _ (rows : Rows) (old new : NodeState) (path : List ℕ) (place : Place)
+module _ (rows : Rows) (old new : NodeState) (path : List ℕ) (place : ReplicaState)
     (stand : StandFor rows old) (lawful : IsRepoPath path) (changes : Changes old new path place)
   where
     here_refs : (refs : References) → place.refs ≡ refs → (new path).refs ≡ refs
-    here_refs refs is = ap (λ (p : Place). p.refs) changes.here ∙ is
+    here_refs refs is = ap (λ (p : ReplicaState). p.refs) changes.here ∙ is
 
     here_objects : (objects : Entries) → place.objects ≡ objects → (new path).objects ≡ objects
-    here_objects objects is = ap (λ (p : Place). p.objects) changes.here ∙ is
+    here_objects objects is = ap (λ (p : ReplicaState). p.objects) changes.here ∙ is
 
     -- the row of the repository is put, and then come changes of references and of objects, which
     -- say what it has, where each that is not as before is named
@@ -63,9 +63,9 @@ module _ (rows : Rows) (old new : NodeState) (path : List ℕ) (place : Place)
         StandFor-applied rows (replica_change path fence last held ∷ (refs ++ objects)) old new stand (
           Says-replica new path lawful fence last held
               (ap is_untouched changes.here ∙ touched_)
-              (ap (λ (p : Place). p.fence) changes.here ∙ same_fence)
-              (ap (λ (p : Place). p.last) changes.here ∙ same_last)
-              (ap (λ (p : Place). p.held) changes.here ∙ same_held),
+              (ap (λ (p : ReplicaState). p.fence) changes.here ∙ same_fence)
+              (ap (λ (p : ReplicaState). p.last) changes.here ∙ same_last)
+              (ap (λ (p : ReplicaState). p.held) changes.here ∙ same_held),
           all_append (Says new) refs objects refs_say_ objects_say,
         )
         (named_or_same old new path changes.others

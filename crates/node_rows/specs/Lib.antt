@@ -1,6 +1,5 @@
 pub mod BadRow
-pub mod Lawful
-pub mod Place
+pub mod ReplicaState
 pub mod Reading
 pub mod Rows
 pub mod Writes

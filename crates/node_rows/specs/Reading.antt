@@ -14,14 +14,14 @@ use Rattle.refstore.specs.Updates.{Fits, after, creation}
 use Rattle.px_keeper.specs.Row.{Rows}
 use Rattle.px_keeper.specs.declared.row_key.RowKey.{RowKey}
 use Rattle.node_rows.specs.BadRow.{IsGood}
-use Rattle.node_rows.specs.Lawful.{IsLawful}
-use Rattle.node_rows.specs.Place.{NodeState, Place, nothing}
+use Rattle.node_calls.specs.Lawful.{IsLawful}
+use Rattle.node_calls.specs.ReplicaState.{NodeState, ReplicaState, nothing}
 use Rattle.node_rows.specs.Rows.{AreRowsOf, cut, object_bytes}
 
 -- ---- one row more
 
 -- what a row of table 6 says of its repository
-abbrev pub said : ℕ → Option ℕ → Bool → Place
+abbrev pub said : ℕ → Option ℕ → Bool → ReplicaState
 said fence last held = record nothing { held = held; fence = fence; last = last }
 
 -- a row of table 7 says that a held repository has this reference, which may be created there
@@ -33,7 +33,7 @@ pub record RefComes (node : NodeState) (key value path name : List ℕ) (id : Ha
   pub hash : IsHash id
   pub fits : Fits (creation name id ∷ []) (node path).refs
 
-abbrev pub with_ref : List ℕ → Hash → Place → Place
+abbrev pub with_ref : List ℕ → Hash → ReplicaState → ReplicaState
 with_ref name id place = record place { refs = after place.refs (creation name id ∷ []) }
 
 -- a row of table 8 says that a held repository has this object, which it did not have
@@ -46,7 +46,7 @@ pub record ObjectComes (node : NodeState) (key value path : List ℕ) (id : Hash
   pub small : IsSmall object.content
   pub named : IsNamed id object
 
-abbrev pub with_one : GitObject → Place → Place
+abbrev pub with_one : GitObject → ReplicaState → ReplicaState
 with_one object place = record place { objects = with_object place.objects object }
 
 -- ---- all rows up to a place

@@ -11,7 +11,7 @@ use Rattle.px_base.specs.declared.kind.Kind.TheVariants.{Commit, Tree, Blob, Tag
 use Rattle.objstore.specs.Entries.{object_at}
 use Rattle.px_keeper.specs.Row.{Rows}
 use Rattle.px_keeper.specs.declared.row_key.RowKey.{RowKey}
-use Rattle.node_rows.specs.Place.{NodeState, Place}
+use Rattle.node_calls.specs.ReplicaState.{NodeState, ReplicaState}
 
 -- ---- table 6: the fence, the last lease and whether it is held, under the path
 
@@ -27,10 +27,10 @@ abbrev pub replica_bytes : ℕ → Option ℕ → Bool → List ℕ
 replica_bytes fence last held = to_be_bytes w64 fence ++ last_bytes last ++ flag held ∷ []
 
 -- nothing was ever done there
-abbrev pub is_untouched : Place → Bool
+abbrev pub is_untouched : ReplicaState → Bool
 is_untouched place = (place.fence == 0) && is_none place.last && not place.held
 
-abbrev pub replica_row : Place → Option (List ℕ)
+abbrev pub replica_row : ReplicaState → Option (List ℕ)
 replica_row place =
     if is_untouched place then None else Some (replica_bytes place.fence place.last place.held)
 

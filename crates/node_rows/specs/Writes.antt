@@ -11,7 +11,7 @@ use Rattle.refstore.specs.Updates.{given}
 use Rattle.px_keeper.specs.Row.{row_key}
 use Rattle.px_keeper.specs.declared.change.Change.{Change}
 use Rattle.px_keeper.specs.declared.change.Change.TheVariants.{Put, Remove}
-use Rattle.node_rows.specs.Place.{Place, ReadyPush}
+use Rattle.node_calls.specs.ReplicaState.{ReplicaState, ReadyPush}
 use Rattle.node_rows.specs.Rows.{object_bytes, replica_bytes, under}
 
 -- ---- one row
@@ -75,21 +75,21 @@ objects_gone path (id ∷ ids) = object_gone path id ∷ objects_gone path ids
 -- ---- the batch of each effect
 
 -- the repository is held or not, with no references and no objects
-abbrev pub emptied_rows : List ℕ → ℕ → Bool → Place → List Change
+abbrev pub emptied_rows : List ℕ → ℕ → Bool → ReplicaState → List Change
 emptied_rows path lease held place = (replica_change path (lease + 1) place.last held ∷ [])
     ++ refs_changes path place.refs [] ++ objects_gone path (keys_of place.objects)
 
 -- the fence is this
-abbrev pub fenced_rows : List ℕ → ℕ → Place → List Change
+abbrev pub fenced_rows : List ℕ → ℕ → ReplicaState → List Change
 fenced_rows path fence place = replica_change path fence place.last place.held ∷ []
 
 -- the push is done
-abbrev pub committed_rows : List ℕ → ℕ → ReadyPush → Place → List Change
+abbrev pub committed_rows : List ℕ → ℕ → ReadyPush → ReplicaState → List Change
 committed_rows path lease push place = (replica_change path (lease + 1) (Some lease) true ∷ [])
     ++ update_changes path push.updates ++ coming_changes path place.objects push.objects
 
 -- the references and the objects of a snapshot are taken over
-abbrev pub applied_rows : List ℕ → ℕ → References → List GitObject → Place → List Change
+abbrev pub applied_rows : List ℕ → ℕ → References → List GitObject → ReplicaState → List Change
 applied_rows path lease refs objects place =
     (replica_change path (lease + 1) place.last true ∷ [])
     ++ refs_changes path place.refs refs ++ coming_changes path place.objects objects

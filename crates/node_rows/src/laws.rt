@@ -5,8 +5,8 @@ ghost use Rattle.std.specs.Prelude.{◌≡◌, ◌<◌, ℕ, List};
 ghost use Rattle.px_keeper.specs.Row.{Rows};
 ghost use Rattle.px_keeper.specs.declared.row_key.RowKey.{RowKey};
 ghost use Rattle.node_rows.specs.BadRow.{AreGood, IsFirstBad};
-ghost use Rattle.node_rows.specs.Lawful.{IsLawful};
-ghost use Rattle.node_rows.specs.Place.{NodeState, without_ready};
+ghost use Rattle.node_calls.specs.Lawful.{IsLawful};
+ghost use Rattle.node_calls.specs.ReplicaState.{NodeState, without_ready};
 ghost use Rattle.node_rows.specs.Rows.{StandFor};
 
 /// Rows stand for at most one node, but for the pushes that are ready, of which no row tells.

@@ -11,3 +11,4 @@ pub mod RepoPath
 pub mod Sink
 pub mod Source
 pub mod StorageName
+pub mod Update

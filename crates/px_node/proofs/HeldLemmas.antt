@@ -12,7 +12,7 @@ use Rattle.px_base.specs.RefList.{is_name, name_cmp}
 use Rattle.px_base.specs.RepoPath.{IsRepoPath}
 use Rattle.node_calls.specs.Ends.{ArePaths}
 use Rattle.px_node.specs.Held.{held_paths}
-use Rattle.node_rows.specs.Place.{Place, nothing}
+use Rattle.node_calls.specs.ReplicaState.{ReplicaState, nothing}
 use Rattle.px_node.specs.Shelf.{Replicas, place_at}
 use Rattle.refstore.proofs.Names.{names_laws}
 
@@ -28,8 +28,8 @@ all_held P (entry ∷ replicas) all = at (all_held P replicas all.1) entry.1.hel
   where
     at : AllByRecursion P (held_paths replicas) → (b : Bool)
         → AllByRecursion P (keys_of (cond b
-        (entry ∷ filter (λ (e : List ℕ × Place). e.1.held) replicas)
-        (filter (λ (e : List ℕ × Place). e.1.held) replicas)))
+        (entry ∷ filter (λ (e : List ℕ × ReplicaState). e.1.held) replicas)
+        (filter (λ (e : List ℕ × ReplicaState). e.1.held) replicas)))
     at rest true = (all.0, rest)
     at rest false = rest
 
@@ -41,8 +41,8 @@ ascends_held (entry ∷ replicas) ascends = at (ascends_held replicas ascends.1)
   where
     at : IsStrictlySortedBy name_cmp (held_paths replicas) → (b : Bool)
         → IsStrictlySortedBy name_cmp (keys_of (cond b
-        (entry ∷ filter (λ (e : List ℕ × Place). e.1.held) replicas)
-        (filter (λ (e : List ℕ × Place). e.1.held) replicas)))
+        (entry ∷ filter (λ (e : List ℕ × ReplicaState). e.1.held) replicas)
+        (filter (λ (e : List ℕ × ReplicaState). e.1.held) replicas)))
     at rest true =
         (all_held (λ (q : List ℕ). name_cmp entry.0 q ≡ Less) replicas ascends.0, rest)
     at rest false = rest
@@ -72,8 +72,8 @@ held_tells (entry ∷ replicas) ascends q =
         → (is_name q entry.0 ≡ true → list_any (is_name q) (held_paths replicas) ≡ false)
         → (b : Bool) → is_name q entry.0 ≡ b → (h : Bool) → entry.1.held ≡ h
         → list_any (is_name q) (keys_of (cond h
-        (entry ∷ filter (λ (e : List ℕ × Place). e.1.held) replicas)
-        (filter (λ (e : List ℕ × Place). e.1.held) replicas)))
+        (entry ∷ filter (λ (e : List ℕ × ReplicaState). e.1.held) replicas)
+        (filter (λ (e : List ℕ × ReplicaState). e.1.held) replicas)))
         ≡ (unwrap_or (cond b (Some entry.1) (lookup (is_name q) replicas)) nothing).held
     at rest none true same true held = rw same (sym held)
     at rest none true same false held = none same ∙ sym held
@@ -115,16 +115,16 @@ IsPathList-more paths rest all path copied whole same ascends lawful here =
 
 -- ---- one replica more
 
-held_first : (path : List ℕ) (place : Place) (rest : Replicas) → place.held ≡ true
+held_first : (path : List ℕ) (place : ReplicaState) (rest : Replicas) → place.held ≡ true
     → held_paths ((path, place) ∷ rest) ≡ path ∷ held_paths rest
 held_first path place rest held = rw held refl
 
-held_not : (path : List ℕ) (place : Place) (rest : Replicas) → place.held ≡ false
+held_not : (path : List ℕ) (place : ReplicaState) (rest : Replicas) → place.held ≡ false
     → held_paths ((path, place) ∷ rest) ≡ held_paths rest
 held_not path place rest held = rw held refl
 
 -- the paths so far, and those of what is left, are all, where the next one is held
-pub next_held : (paths all : List (List ℕ)) (left rest : Replicas) (path : List ℕ) (place : Place)
+pub next_held : (paths all : List (List ℕ)) (left rest : Replicas) (path : List ℕ) (place : ReplicaState)
     → paths ++ held_paths left ≡ all → left ≡ (path, place) ∷ rest → place.held ≡ true
     → paths ++ path ∷ held_paths rest ≡ all
 next_held paths all left rest path place whole is held =
@@ -141,7 +141,7 @@ pushed_held paths made all rest path copied is same whole =
     ∙ ap (λ (p : List ℕ). paths ++ p ∷ rest) same ∙ whole
 
 -- and where it is not
-pub next_not : (paths all : List (List ℕ)) (left rest : Replicas) (path : List ℕ) (place : Place)
+pub next_not : (paths all : List (List ℕ)) (left rest : Replicas) (path : List ℕ) (place : ReplicaState)
     → paths ++ held_paths left ≡ all → left ≡ (path, place) ∷ rest → place.held ≡ false
     → paths ++ held_paths rest ≡ all
 next_not paths all left rest path place whole is held =

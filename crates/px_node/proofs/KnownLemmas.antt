@@ -12,14 +12,14 @@ use Rattle.objstore.specs.declared.bundles.BundleFault.TheVariants as bundle
 use Rattle.refstore.specs.Updates.{refusal_of}
 use Rattle.refstore.specs.declared.prepared.RefRefusal.{RefRefusal}
 use Rattle.refstore.specs.declared.prepared.RefRefusal.TheVariants as refs
-use Rattle.node_rows.specs.Place.{Place}
+use Rattle.node_calls.specs.ReplicaState.{ReplicaState}
 use Rattle.node_calls.specs.Calls.{Lacks, fenced, new_tips, not_held, prepare_refusal, with_coming}
 use Rattle.node_replica.specs.Prepared.{IsNotPrepared}
 use Rattle.node_calls.specs.Refusals.{IsFenced, IsOfObjects, IsOfUpdates, MayAnswer, MayRefuse, Prepare, of_bundle, of_updates}
 use Rattle.node_calls.specs.declared.node.NodeError.{NodeError}
 use Rattle.node_calls.specs.declared.node.NodeError.TheVariants.{Fault, Memory, Refused}
-use Rattle.node_calls.specs.declared.refusal.NodeRefusal.{NodeRefusal}
-use Rattle.node_calls.specs.declared.refusal.NodeRefusal.TheVariants.{Fenced, NoRepo, Missing}
+use Rattle.px_ops.specs.declared.node_refusal.NodeRefusal.{NodeRefusal}
+use Rattle.px_ops.specs.declared.node_refusal.NodeRefusal.TheVariants.{Fenced, NoRepo, Missing}
 
 -- the first cause that holds is one of two
 one_of : {A : Type 0} (a b : Option A) (r : A) → option_or a b ≡ Some r
@@ -63,7 +63,7 @@ is_missing objects tips (Missing id) lacks = tt
 is_missing objects tips other lacks = absurd lacks
 
 -- the causes before the last one
-prepare_may : (lease : ℕ) (push : Push) (place : Place) (r : NodeRefusal)
+prepare_may : (lease : ℕ) (push : Push) (place : ReplicaState) (r : NodeRefusal)
     → prepare_refusal lease push place ≡ Some r → MayRefuse Prepare r
 prepare_may lease push place r is =
     let objects = of_bundle (bundle_fault place.objects 0 push.objects) in
@@ -77,7 +77,7 @@ prepare_may lease push place r is =
     (one_of (not_held place) (option_or objects updates) r later)))
     (one_of (fenced lease place) (option_or (not_held place) (option_or objects updates)) r is)
 
-pub prepare_known : (lease : ℕ) (push : Push) (place : Place) (e : NodeError)
+pub prepare_known : (lease : ℕ) (push : Push) (place : ReplicaState) (e : NodeError)
     → IsNotPrepared lease push place e → MayAnswer Prepare e
 prepare_known lease push place Fault not = absurd not
 prepare_known lease push place Memory not = tt

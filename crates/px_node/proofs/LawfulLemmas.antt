@@ -4,30 +4,30 @@ use Rattle.std.specs.Map.{lookup}
 use Rattle.std.specs.Option.{IsSome, is_some, unwrap_or}
 use Rattle.px_base.specs.RefList.{is_name}
 use Rattle.px_base.specs.RepoPath.{IsRepoPath}
-use Rattle.node_rows.proofs.LawfulPlaces.{IsLawfulPlace-said}
+use Rattle.node_rows.proofs.LawfulReplicas.{IsLawfulReplica-said}
 use Rattle.refstore.proofs.Names.{one_name}
-use Rattle.node_rows.proofs.RowLemmas.{this_or_other}
-use Rattle.node_rows.specs.Lawful.{IsLawful, IsLawfulPlace}
-use Rattle.node_rows.specs.Place.{Changes, Place, nothing}
+use Rattle.node_calls.proofs.ReplicaLemmas.{this_or_other}
+use Rattle.node_calls.specs.Lawful.{IsLawful, IsLawfulReplica}
+use Rattle.node_calls.specs.ReplicaState.{Changes, ReplicaState, nothing}
 use Rattle.px_node.proofs.Places.{Changes-put}
 use Rattle.px_node.specs.Shelf.{AreLawful, Puts, Replicas, place_at}
 
 -- where there is none, all are
 pub lawful_at_first : (replicas : Replicas) → replicas ≡ [] → AreLawful replicas
 lawful_at_first replicas none = subst AreLawful (sym none) (record {
-  places = λ path. IsLawfulPlace-said 0 None false (omega arith) tt;
+  places = λ path. IsLawfulReplica-said 0 None false (omega arith) tt;
   paths = λ path there. absurd (cc);
 })
 
 -- they are still, once such a replica was put under a path
-pub AreLawful-put : (old new : Replicas) (path : List ℕ) (place : Place)
-    → Puts old new path place → IsRepoPath path → IsLawfulPlace place → AreLawful old
+pub AreLawful-put : (old new : Replicas) (path : List ℕ) (place : ReplicaState)
+    → Puts old new path place → IsRepoPath path → IsLawfulReplica place → AreLawful old
     → AreLawful new
 AreLawful-put old new path place puts lawful_path lawful were = record {
   places = λ q. ⊎_elim
-      (λ same. subst (λ (p : List ℕ). IsLawfulPlace (place_at new p)) same
-      (subst IsLawfulPlace (sym changes.here) lawful))
-      (λ same. subst IsLawfulPlace (sym same) (were.places q))
+      (λ same. subst (λ (p : List ℕ). IsLawfulReplica (place_at new p)) same
+      (subst IsLawfulReplica (sym changes.here) lawful))
+      (λ same. subst IsLawfulReplica (sym same) (were.places q))
       (this_or_other (place_at old) (place_at new) path changes.others q);
   paths = λ q there. at q (is_name path q) refl (subst IsSome (puts q) there);
 }
@@ -41,8 +41,8 @@ AreLawful-put old new path place puts lawful_path lawful were = record {
     at q false other there = were.paths q there
 
 -- and once one that was there was changed to such a one
-pub AreLawful-back : (old new : Replicas) (path : List ℕ) (was place : Place)
-    → Some was ≡ lookup (is_name path) old → Puts old new path place → IsLawfulPlace place
+pub AreLawful-back : (old new : Replicas) (path : List ℕ) (was place : ReplicaState)
+    → Some was ≡ lookup (is_name path) old → Puts old new path place → IsLawfulReplica place
     → AreLawful old → AreLawful new
 AreLawful-back old new path was place found puts lawful were =
     AreLawful-put old new path place puts (were.paths path (sym (ap is_some found))) lawful were
@@ -54,7 +54,7 @@ node_is_lawful replicas are = record {
   paths = λ path. at path (lookup (is_name path) replicas) refl;
 }
   where
-    at : (path : List ℕ) (found : Option Place) → lookup (is_name path) replicas ≡ found
+    at : (path : List ℕ) (found : Option ReplicaState) → lookup (is_name path) replicas ≡ found
         → IsRepoPath path ⊎ (place_at replicas path ≡ nothing)
-    at path None is = inr (ap (λ (o : Option Place). unwrap_or o nothing) is)
+    at path None is = inr (ap (λ (o : Option ReplicaState). unwrap_or o nothing) is)
     at path (Some place) is = inl (are.paths path (ap is_some is))

@@ -14,9 +14,9 @@ use Rattle.node_rows.proofs.ReadTables.{read_all, read_nothing}
 use Rattle.node_rows.specs.BadRow.{IsFirstBad}
 use Rattle.node_rows.specs.Rows.{StandFor}
 use Rattle.node_rows.proofs.RowBytes.{one_object}
-use Rattle.node_rows.proofs.RowLemmas.{this_or_other}
-use Rattle.node_rows.specs.Lawful.{IsLawful, IsLawfulPlace}
-use Rattle.node_rows.specs.Place.{Changes, NodeState, Place, ReadyPush, nothing, without_ready}
+use Rattle.node_calls.proofs.ReplicaLemmas.{this_or_other}
+use Rattle.node_calls.specs.Lawful.{IsLawful, IsLawfulReplica}
+use Rattle.node_calls.specs.ReplicaState.{Changes, NodeState, ReplicaState, ReadyPush, nothing, without_ready}
 use Rattle.node_rows.specs.Reading.{IsReadTo, ObjectComes, RefComes, with_one, with_ref}
 use Rattle.px_node.proofs.NameSize.{name_size}
 use Rattle.px_node.proofs.LawfulLemmas.{AreLawful-put, lawful_at_first}
@@ -42,17 +42,17 @@ pub held_is_path : (replicas : Replicas) → AreLawful replicas → (path : List
     → (place_at replicas path).held ≡ true → IsRepoPath path
 held_is_path replicas are path held = at (lookup (is_name path) replicas) refl
   where
-    at : (found : Option Place) → lookup (is_name path) replicas ≡ found → IsRepoPath path
+    at : (found : Option ReplicaState) → lookup (is_name path) replicas ≡ found → IsRepoPath path
     at (Some place) is = are.paths path (ap is_some is)
     at None is = absurd (
         let none : place_at replicas path ≡ nothing =
-        ap (λ (o : Option Place). unwrap_or o nothing) is in
+        ap (λ (o : Option ReplicaState). unwrap_or o nothing) is in
         let not_held : (place_at replicas path).held ≡ nothing.held =
-        ap (λ (p : Place). p.held) none in
+        ap (λ (p : ReplicaState). p.held) none in
         cc)
 
-module _ (old new : Replicas) (path : List ℕ) (place : Place) (puts : Puts old new path place)
-    (told : AreTold old) (lawful : IsLawfulPlace place) (unready : place.ready ≡ None) where
+module _ (old new : Replicas) (path : List ℕ) (place : ReplicaState) (puts : Puts old new path place)
+    (told : AreTold old) (lawful : IsLawfulReplica place) (unready : place.ready ≡ None) where
   changes : Changes (place_at old) (place_at new) path place
   changes = Changes-put old new path place puts
 
@@ -62,20 +62,20 @@ module _ (old new : Replicas) (path : List ℕ) (place : Place) (puts : Puts old
     lawful = AreLawful-put old new path place puts lawful_path lawful told.lawful;
     unready = λ q. ⊎_elim
         (λ same. subst (λ (p : List ℕ). (place_at new p).ready ≡ None) same
-        (ap (λ (p : Place). p.ready) changes.here ∙ unready))
-        (λ same. ap (λ (p : Place). p.ready) same ∙ told.unready q)
+        (ap (λ (p : ReplicaState). p.ready) changes.here ∙ unready))
+        (λ same. ap (λ (p : ReplicaState). p.ready) same ∙ told.unready q)
         (this_or_other (place_at old) (place_at new) path changes.others q);
   }
 
   -- and once one that was there was changed to such a one
-  pub told_back : (was : Place) → Some was ≡ lookup (is_name path) old → AreTold new
+  pub told_back : (was : ReplicaState) → Some was ≡ lookup (is_name path) old → AreTold new
   told_back was found = told_put (told.lawful.paths path (sym (ap is_some found)))
 
 -- what was found under a path has no push that is ready
-pub found_unready : (replicas : Replicas) (path : List ℕ) (place : Place) → AreTold replicas
+pub found_unready : (replicas : Replicas) (path : List ℕ) (place : ReplicaState) → AreTold replicas
     → Some place ≡ lookup (is_name path) replicas → place.ready ≡ None
 found_unready replicas path place told found =
-    sym (ap (λ (p : Place). p.ready) (place_here replicas path path place refl found))
+    sym (ap (λ (p : ReplicaState). p.ready) (place_here replicas path path place refl found))
     ∙ told.unready path
 
 -- ---- a reference
@@ -91,7 +91,7 @@ module _ (old : Replicas) (key value path name : List ℕ) (id : Hash) (lawful :
     hash = comes.hash;
   }
 
-module _ (old new : Replicas) (key value path name : List ℕ) (id : Hash) (was now_ : Place)
+module _ (old new : Replicas) (key value path name : List ℕ) (id : Hash) (was now_ : ReplicaState)
     (tells : TellsRef key value path name id) (found : Some was ≡ lookup (is_name path) old)
     (result : Result (Unit {0}) NotTaken) where
   here : place_at old path ≡ was
@@ -112,11 +112,11 @@ module _ (old new : Replicas) (key value path name : List ℕ) (id : Hash) (was 
         id = id;
         comes = record {
           parts = tells.parts;
-          held = ap (λ (p : Place). p.held) here ∙ may.held;
+          held = ap (λ (p : ReplicaState). p.held) here ∙ may.held;
           named = tells.named;
           is = tells.is;
           hash = tells.hash;
-          fits = (subst (λ (p : Place). MayHaveRef p name id) (sym here) may).fits;
+          fits = (subst (λ (p : ReplicaState). MayHaveRef p name id) (sym here) may).fits;
         };
         changes = Changes-back old new path path was now_ (with_ref name id) refl found is puts;
       }
@@ -131,26 +131,26 @@ module _ (old new : Replicas) (key value path name : List ℕ) (id : Hash) (was 
       let both : ◌≡◌ {A = List ℕ × List ℕ} (q, other) (path, name) = cc in
       let bytes : h.0 ≡ id.0 = sym comes.is ∙ tells.is in
       let same : h ≡ id = ap (λ (b : List ℕ). let x : Hash = record { 0 = b } in x) bytes in
-      bad is (subst (λ (p : Place). MayHaveRef p name id) here
+      bad is (subst (λ (p : ReplicaState). MayHaveRef p name id) here
       (subst (λ (x : Hash). MayHaveRef (place_at old path) name x) same
       (subst (λ (p : List ℕ × List ℕ). MayHaveRef (place_at old p.0) p.1 h) both
       (record { held = comes.held; fits = comes.fits }))))
 
   -- the replicas are as rows tell them still
-  pub told_with_ref : Puts old new path now_ → AreTold old → IsLawfulPlace now_
+  pub told_with_ref : Puts old new path now_ → AreTold old → IsLawfulReplica now_
       → OnOk result (now_ ≡ with_ref name id was) → OnOk result (AreTold new)
   told_with_ref puts told lawful_ = at result
     where
       at : (r : Result (Unit {0}) NotTaken) → OnOk r (now_ ≡ with_ref name id was)
           → OnOk r (AreTold new)
       at (Ok tt) is = told_back old new path now_ puts told lawful_
-          (ap (λ (p : Place). p.ready) is ∙ found_unready old path was told found) was found
+          (ap (λ (p : ReplicaState). p.ready) is ∙ found_unready old path was told found) was found
       at (Err e) is = tt
 
 -- ---- an object
 
 module _ (old new : Replicas) (key value path : List ℕ) (id : Hash) (object : GitObject)
-    (was now_ : Place) (tells : TellsObject key value path id object)
+    (was now_ : ReplicaState) (tells : TellsObject key value path id object)
     (found : Some was ≡ lookup (is_name path) old) (result : Result (Unit {0}) NotTaken) where
   stands : place_at old path ≡ was
   stands = place_here old path path was refl found
@@ -166,7 +166,7 @@ module _ (old new : Replicas) (key value path : List ℕ) (id : Hash) (object : 
           → OnOk r (TakesObject (place_at old) (place_at new) key value)
       at (Ok tt) is may =
           let may_there : MayHaveObject (place_at old path) id object =
-          subst (λ (p : Place). MayHaveObject p id object) (sym stands) may in
+          subst (λ (p : ReplicaState). MayHaveObject p id object) (sym stands) may in
           record {
             path = path;
             id = id;
@@ -192,20 +192,20 @@ module _ (old new : Replicas) (key value path : List ℕ) (id : Hash) (object : 
       sym comes.parts ∙ tells.parts in
       let both : ◌≡◌ {A = List ℕ × List ℕ} (q, h.0) (path, id.0) = cc in
       let one : other ≡ object = one_object other object (sym comes.is ∙ tells.is) in
-      bad is (subst (λ (p : Place). MayHaveObject p id object) stands
+      bad is (subst (λ (p : ReplicaState). MayHaveObject p id object) stands
       (subst (λ (o : GitObject). MayHaveObject (place_at old path) id o) one
       (subst (λ (p : List ℕ × List ℕ). MayHaveObject (place_at old p.0) (record { 0 = p.1 }) other)
       both (record { held = comes.held; absent = comes.absent; named = comes.named }))))
 
   -- the replicas are as rows tell them still
-  pub told_with_object : Puts old new path now_ → AreTold old → IsLawfulPlace now_
+  pub told_with_object : Puts old new path now_ → AreTold old → IsLawfulReplica now_
       → OnOk result (now_ ≡ with_one object was) → OnOk result (AreTold new)
   told_with_object puts told lawful_ = at result
     where
       at : (r : Result (Unit {0}) NotTaken) → OnOk r (now_ ≡ with_one object was)
           → OnOk r (AreTold new)
       at (Ok tt) is = told_back old new path now_ puts told lawful_
-          (ap (λ (p : Place). p.ready) is ∙ found_unready old path was told found) was found
+          (ap (λ (p : ReplicaState). p.ready) is ∙ found_unready old path was told found) was found
       at (Err e) is = tt
 
 -- an object that comes is one that the row tells

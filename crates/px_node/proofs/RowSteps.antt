@@ -10,7 +10,7 @@ use Rattle.node_rows.proofs.ReadRef.{bad_ref, read_ref}
 use Rattle.node_rows.proofs.ReadReplica.{bad_replica, read_replica}
 use Rattle.node_rows.proofs.ReadTables.{read_table}
 use Rattle.node_rows.specs.BadRow.{IsFirstBad, IsReplicaRow}
-use Rattle.node_rows.specs.Place.{NodeState}
+use Rattle.node_calls.specs.ReplicaState.{NodeState}
 use Rattle.node_rows.specs.Reading.{IsReadTo, ObjectComes, RefComes}
 use Rattle.px_node.specs.Opening.{ReadTo, TakesObject, TakesRef, TakesReplica}
 

@@ -12,7 +12,7 @@ use Rattle.objstore.specs.Bundle.{bundle_fault}
 use Rattle.px_keeper.specs.Change.{applied}
 use Rattle.px_keeper.specs.Row.{Rows}
 use Rattle.px_keeper.specs.declared.change.Change.{Change}
-use Rattle.node_rows.proofs.OptionLemmas.{no_first, no_second}
+use Rattle.node_calls.proofs.OptionLemmas.{no_first, no_second}
 use Rattle.node_rows.proofs.Alike.{rows_of_nothing, stand_same}
 use Rattle.px_node.proofs.StandCalls.{stand_aborted, stand_committed, stand_created, stand_prepared, stand_raised, stand_removed, stand_taken_over}
 use Rattle.std.specs.Map.{values_of}
@@ -23,14 +23,14 @@ use Rattle.node_calls.specs.declared.node.NodeError.TheVariants.{Fault, Memory, 
 use Rattle.node_calls.specs.declared.snapshot.Snapshot.{Snapshot}
 use Rattle.node_calls.specs.Calls.{Applies, ApplyRefuses, aborted, apply_refusal, committed, create_refusal, created, fenced, has_none, not_held, prepared, ready_under, removed, with_coming}
 use Rattle.node_replica.specs.Effects.{CommitsAt, MayBeDone, taken_over}
-use Rattle.node_rows.specs.Place.{Changes, NodeState, Place, ReadyPush, Same, nothing, raised}
+use Rattle.node_calls.specs.ReplicaState.{Changes, NodeState, ReplicaState, ReadyPush, Same, nothing, raised}
 use Rattle.node_rows.specs.Rows.{StandFor}
 use Rattle.node_replica.specs.Kept.{Keeps}
 use Rattle.px_node.specs.Shelf.{RowsStand}
 use Rattle.node_rows.specs.Writes.{applied_rows, committed_rows, emptied_rows, fenced_rows}
 use Rattle.node_calls.specs.declared.node.NodeError.{NodeError}
-use Rattle.node_calls.specs.declared.refusal.NodeRefusal.{NodeRefusal}
-use Rattle.node_calls.specs.declared.refusal.NodeRefusal.TheVariants.{Fenced, NoRepo, RepoExists}
+use Rattle.px_ops.specs.declared.node_refusal.NodeRefusal.{NodeRefusal}
+use Rattle.px_ops.specs.declared.node_refusal.NodeRefusal.TheVariants.{Fenced, NoRepo, RepoExists}
 
 -- a lease that is admitted is not below the fence
 admitted : (lease fence : ℕ) (b : Bool) → nat_lt lease fence ≡ b
@@ -38,14 +38,14 @@ admitted : (lease fence : ℕ) (b : Bool) → nat_lt lease fence ≡ b
 admitted lease fence true is none = absurd (cc)
 admitted lease fence false is none = grind (arith, is)
 
-pub admits : (lease : ℕ) (place : Place) → fenced lease place ≡ None → place.fence ≤ lease
+pub admits : (lease : ℕ) (place : ReplicaState) → fenced lease place ≡ None → place.fence ≤ lease
 admits lease place none = admitted lease place.fence (nat_lt lease place.fence) refl none
 
-pub admits_first : (lease : ℕ) (place : Place) (more : Option NodeRefusal)
+pub admits_first : (lease : ℕ) (place : ReplicaState) (more : Option NodeRefusal)
     → option_or (fenced lease place) more ≡ None → place.fence ≤ lease
 admits_first lease place more none = admits lease place (no_first (fenced lease place) more none)
 
-pub create_admits : (lease : ℕ) (place : Place) → create_refusal lease place ≡ None
+pub create_admits : (lease : ℕ) (place : ReplicaState) → create_refusal lease place ≡ None
     → place.fence ≤ lease
 create_admits lease place none = admits_first lease place
     (cond (place.held && not (has_none place.refs)) (Some RepoExists) None) none
@@ -55,7 +55,7 @@ holds true none = refl
 holds false none = absurd (cc)
 
 -- a place that a call is not refused at is held
-pub held_second : (lease : ℕ) (place : Place) (more : Option NodeRefusal)
+pub held_second : (lease : ℕ) (place : ReplicaState) (more : Option NodeRefusal)
     → option_or (fenced lease place) (option_or (not_held place) more) ≡ None → place.held ≡ true
 held_second lease place more none =
     holds place.held (no_first (not_held place) more
@@ -99,14 +99,14 @@ kept rows rows' old new batch stand is leads r there = at rows stand (sym is ∙
 
 -- what is known where a batch was kept of a repository that had this, once there was room for it
 pub record IsKept (rows rows' : Option Rows) (before old : NodeState) (path : List ℕ)
-    (place : Place) (batch : List Change) : Type 0 where
+    (place : ReplicaState) (batch : List Change) : Type 0 where
   pub stand : RowsStand rows before
   pub same : Same before old
   pub here : place ≡ before path
   pub lawful : IsRepoPath path
   pub kept_ : Keeps batch rows rows'
 
-module _ (rows rows' : Option Rows) (before old new : NodeState) (path : List ℕ) (place : Place)
+module _ (rows rows' : Option Rows) (before old new : NodeState) (path : List ℕ) (place : ReplicaState)
     (batch : List Change) (is : IsKept rows rows' before old path place batch) where
   -- it had this still
   there : place ≡ old path
@@ -115,7 +115,7 @@ module _ (rows rows' : Option Rows) (before old new : NodeState) (path : List �
   now : RowsStand rows old
   now = rows_same rows rows before old is.stand refl is.same
 
-  leads : (other : Place → List Change) → batch ≡ other place
+  leads : (other : ReplicaState → List Change) → batch ≡ other place
       → ((r : Rows) → StandFor r old → StandFor (applied r (other (old path))) new)
       → RowsStand rows' new
   leads other same on =
@@ -124,7 +124,7 @@ module _ (rows rows' : Option Rows) (before old new : NodeState) (path : List �
       (sym (same ∙ ap other there)) (on r stand))
 
   below : (lease : ℕ) → place.fence ≤ lease → (old path).fence ≤ lease
-  below lease above = subst (λ (p : Place). p.fence ≤ lease) there above
+  below lease above = subst (λ (p : ReplicaState). p.fence ≤ lease) there above
 
   pub rows_created : (lease : ℕ) → place.fence ≤ lease → batch ≡ emptied_rows path lease true place
       → Changes old new path (created lease (old path)) → RowsStand rows' new
@@ -152,14 +152,14 @@ module _ (rows rows' : Option Rows) (before old new : NodeState) (path : List �
   rows_prepared lease push above held same changes =
       leads (fenced_rows path lease) same (λ r stand.
       stand_prepared r old new path stand is.lawful lease (below lease above) push
-      (subst (λ (p : Place). p.held ≡ true) there held) changes)
+      (subst (λ (p : ReplicaState). p.held ≡ true) there held) changes)
 
   pub rows_raised : (lease : ℕ) → place.fence < lease → batch ≡ fenced_rows path lease place
       → Changes old new path (raised lease (old path)) → RowsStand rows' new
   rows_raised lease above same changes =
       leads (fenced_rows path lease) same (λ r stand.
       stand_raised r old new path stand is.lawful lease
-      (subst (λ (p : Place). p.fence < lease) there above) changes)
+      (subst (λ (p : ReplicaState). p.fence < lease) there above) changes)
 
   pub rows_taken_over : (lease : ℕ) (refs : References) (objects : List GitObject)
       → place.fence ≤ lease → bundle_fault place.objects 0 objects ≡ None → IsRefList refs
@@ -168,7 +168,7 @@ module _ (rows rows' : Option Rows) (before old new : NodeState) (path : List �
   rows_taken_over lease refs objects above comes list same changes =
       leads (applied_rows path lease refs objects) same (λ r stand.
       stand_taken_over r old new path stand is.lawful lease (below lease above) refs objects
-      (subst (λ (p : Place). bundle_fault p.objects 0 objects ≡ None) there comes)
+      (subst (λ (p : ReplicaState). bundle_fault p.objects 0 objects ≡ None) there comes)
       list.ordered changes)
 
   pub rows_committed : (lease : ℕ) (push : ReadyPush) → place.fence ≤ lease → place.held ≡ true
@@ -176,10 +176,10 @@ module _ (rows rows' : Option Rows) (before old new : NodeState) (path : List �
       → Changes old new path (committed lease push (old path)) → RowsStand rows' new
   rows_committed lease push above held may same changes =
       let done : MayBeDone (old path) push =
-      subst (λ (p : Place). MayBeDone p push) there may in
+      subst (λ (p : ReplicaState). MayBeDone p push) there may in
       leads (committed_rows path lease push) same (λ r stand.
       stand_committed r old new path stand is.lawful lease (below lease above) push
-      (subst (λ (p : Place). p.held ≡ true) there held) done.refs.ordered done.fits done.comes
+      (subst (λ (p : ReplicaState). p.held ≡ true) there held) done.refs.ordered done.fits done.comes
       changes)
 
   rows_done : (lease : ℕ) (vote : Hash) → CommitsAt lease path old new vote → place.fence ≤ lease
@@ -189,14 +189,14 @@ module _ (rows rows' : Option Rows) (before old new : NodeState) (path : List �
   rows_done lease vote does above held same may =
       let push = does.does_.push in
       let ready : place.ready ≡ Some push =
-      ap (λ (p : Place). p.ready) there ∙ ready_is lease (old path).ready push does.does_.ready in
+      ap (λ (p : ReplicaState). p.ready) there ∙ ready_is lease (old path).ready push does.does_.ready in
       rows_committed lease push above held
       (subst (λ (o : Option ReadyPush). IfSome o (MayBeDone place)) ready may)
       (subst (λ (o : Option ReadyPush).
       IfSome o (λ (p : ReadyPush). batch ≡ committed_rows path lease p place)) ready same)
-      (subst (λ (p : Place). Changes old new path p) does.does_.done does.changes)
+      (subst (λ (p : ReplicaState). Changes old new path p) does.does_.done does.changes)
 
-module _ (rows rows' : Option Rows) (before old new : NodeState) (path : List ℕ) (place : Place)
+module _ (rows rows' : Option Rows) (before old new : NodeState) (path : List ℕ) (place : ReplicaState)
     (batch : List Change) (stand : RowsStand rows before) (same : Same before old)
     (here : place ≡ before path) (lawful : IsRepoPath path) (lease : ℕ) (above : place.fence ≤ lease)
   where
@@ -231,7 +231,7 @@ module _ (rows rows' : Option Rows) (before old new : NodeState) (path : List �
 
 -- a snapshot was taken over, or it was not, as a call on a node may end
 pub apply_ends : (lease : ℕ) (given : Snapshot) (path : List ℕ)
-    (result : Result (Unit {0}) NodeError) (before old new : NodeState) (place : Place)
+    (result : Result (Unit {0}) NodeError) (before old new : NodeState) (place : ReplicaState)
     (refs : References) (objects : List GitObject) → Same before old → place ≡ before path
     → apply_refusal lease given place ≡ None
     → IsClosed (with_coming place given.objects) (values_of given.refs) → refs ≡ given.refs
@@ -244,8 +244,8 @@ apply_ends lease given path (Ok tt) before old new place refs objects same here 
     record {
       place = taken_over lease refs objects (old path);
       does_ = record {
-        accepted = subst (λ (p : Place). apply_refusal lease given p ≡ None) here accepted;
-        closed = subst (λ (p : Place).
+        accepted = subst (λ (p : ReplicaState). apply_refusal lease given p ≡ None) here accepted;
+        closed = subst (λ (p : ReplicaState).
             IsClosed (with_coming p given.objects) (values_of given.refs)) here closed;
         is = ap (λ (r : References). taken_over lease r objects (old path)) is_refs
             ∙ ap (λ (o : List GitObject). taken_over lease given.refs o (old path)) is_objects

@@ -13,7 +13,7 @@ use Rattle.px_keeper.specs.Row.{Rows}
 use Rattle.node_rows.proofs.Stands.{stand_applied, stand_emptied, stand_fenced, stand_pushed, touched_fence}
 use Rattle.node_calls.specs.Calls.{aborted, committed, created, prepared, removed}
 use Rattle.node_replica.specs.Effects.{taken_over}
-use Rattle.node_rows.specs.Place.{Changes, NodeState, Place, ReadyPush, raised}
+use Rattle.node_calls.specs.ReplicaState.{Changes, NodeState, ReplicaState, ReadyPush, raised}
 use Rattle.node_rows.specs.Rows.{StandFor, is_untouched}
 use Rattle.refstore.specs.Updates.{Fits}
 use Rattle.node_rows.specs.Writes.{applied_rows, committed_rows, emptied_rows, fenced_rows}
@@ -21,7 +21,7 @@ use Rattle.node_rows.specs.Writes.{applied_rows, committed_rows, emptied_rows, f
 -- ---- the batch of each call
 
 -- where the repository is held, something was done
-touched_held : (place : Place) → place.held ≡ true → is_untouched place ≡ false
+touched_held : (place : ReplicaState) → place.held ≡ true → is_untouched place ≡ false
 touched_held place held = and_right _ (not place.held) (ap not held)
 
 above_fence : (fence lease : ℕ) → fence ≤ lease → max fence (lease + 1) ≡ lease + 1

@@ -3,7 +3,7 @@ use Rattle.std.specs.Prelude.{◌≡◌, ◌≤◌, ℕ, Option, Some}
 use Rattle.px_base.specs.Causes.{Rose}
 use Rattle.px_keeper.specs.Row.{Rows, row_key}
 use Rattle.node_rows.specs.BadRow.{AreGood, IsFirstBad}
-use Rattle.node_rows.specs.Place.{NodeState}
+use Rattle.node_calls.specs.ReplicaState.{NodeState}
 use Rattle.node_rows.specs.Rows.{StandFor}
 use Rattle.px_node.specs.declared.open_fault.OpenFault.{OpenFault}
 use Rattle.px_node.specs.declared.open_fault.OpenFault.TheVariants.{BadRow, KeeperFault, Memory}

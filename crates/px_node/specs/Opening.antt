@@ -5,7 +5,7 @@ use Rattle.px_base.specs.Object.{GitObject}
 use Rattle.px_base.specs.declared.hash.Hash.{Hash}
 use Rattle.px_keeper.specs.Row.{Rows, row_key}
 use Rattle.node_rows.specs.BadRow.{IsFirstBad, IsReplicaRow}
-use Rattle.node_rows.specs.Place.{Changes, NodeState}
+use Rattle.node_calls.specs.ReplicaState.{Changes, NodeState}
 use Rattle.node_rows.specs.Reading.{IsReadTo, ObjectComes, RefComes, said, with_one, with_ref}
 use Rattle.px_node.specs.Shelf.{AreLawful, Replicas, place_at}
 use Rattle.px_node.specs.declared.opening.Unread.{Unread}

@@ -8,7 +8,7 @@ ghost use Rattle.node_calls.specs.Calls.{aborted, created, prepared, ready_under
 ghost use Rattle.node_replica.specs.Checks.{IsNoRefusal};
 ghost use Rattle.node_replica.specs.Effects.{CommitsAt, taken_over};
 ghost use Rattle.node_calls.specs.Ends.{ArePaths, NodeHasCause};
-ghost use Rattle.node_rows.specs.Place.{Changes, Same, nothing, raised};
+ghost use Rattle.node_calls.specs.ReplicaState.{Changes, Same, nothing, raised};
 ghost use Rattle.node_replica.specs.Prepared.{IsReadyAt};
 ghost use Rattle.node_replica.specs.Hashes.{NameHashes};
 ghost use Rattle.px_node.specs.Shelf.{AreLawful, Puts, place_at};
@@ -35,9 +35,9 @@ pub(crate) struct Unheard {
 
 impl Model for Unheard {
     ghost use Rattle.std.specs.Prelude.{◌≡◌};
-    ghost use Rattle.node_rows.specs.Place.{Place, nothing};
+    ghost use Rattle.node_calls.specs.ReplicaState.{ReplicaState, nothing};
 
-    ghost Value = { Place };
+    ghost Value = { ReplicaState };
 
     ghost view = { λ u. u.replica };
 

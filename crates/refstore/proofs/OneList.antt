@@ -7,7 +7,8 @@ use Rattle.px_base.specs.RefName.{IsBadAt, IsRefName, follows_badly, is_misplace
 use Rattle.px_base.specs.declared.hash.Hash.{Hash}
 use Rattle.px_base.specs.declared.push.Update.{Update}
 use Rattle.px_base.proofs.HexText.{hash_of-hash_text, text_is_lawful}
-use Rattle.refstore.specs.Hook.{AreUpdates, IsUpdate, line_of, text_of}
+use Rattle.px_base.specs.Update.{AreUpdates, IsUpdate}
+use Rattle.refstore.specs.Hook.{line_of, text_of}
 
 -- two texts in two parts each
 record Parts (a b c d : List ℕ) : Type 0 where

@@ -1,9 +1,8 @@
 -- The text that Git's reference-transaction hook is given of a list of updates (githooks(5)).
 use Rattle.std.specs.Prelude.{ℕ, ◌∷◌, ◌++◌, [], List}
-use Rattle.std.specs.List.{AllByRecursion, flat_map}
+use Rattle.std.specs.List.{flat_map}
 use Rattle.sha1.specs.Sha1.{sha1}
-use Rattle.px_base.specs.Hash.{IsHash, hash_text}
-use Rattle.px_base.specs.RefName.{IsRefName}
+use Rattle.px_base.specs.Hash.{hash_text}
 use Rattle.px_base.specs.declared.hash.Hash.{Hash}
 use Rattle.px_base.specs.declared.push.Update.{Update}
 
@@ -19,12 +18,3 @@ text_of updates = flat_map line_of updates
 -- the vote on a list of updates: the SHA-1 (FIPS 180-4) of its text
 unfoldable pub vote_on : List Update → Hash
 vote_on updates = record { 0 = sha1 (text_of updates) }
-
--- an update as a value of the type has it: two object names of 20 bytes, and the name of a reference
-pub record IsUpdate (update : Update) : Type 0 where
-  pub old : IsHash update.old
-  pub new : IsHash update.new
-  pub name : IsRefName update.name
-
-abbrev pub AreUpdates : List Update → Type 0
-AreUpdates updates = AllByRecursion IsUpdate updates

@@ -4,7 +4,8 @@
 ghost use Rattle.std.specs.Prelude.{◌≡◌, ℕ, List, slice_get, false, Some};
 ghost use Rattle.px_base.specs.RefList.{IsRefList, References, ref_at};
 ghost use Rattle.px_base.specs.declared.push.Update.{Update};
-ghost use Rattle.refstore.specs.Hook.{AreUpdates, text_of};
+ghost use Rattle.px_base.specs.Update.{AreUpdates};
+ghost use Rattle.refstore.specs.Hook.{text_of};
 ghost use Rattle.refstore.specs.Updates.{Fits, after, given, is_among, names_of};
 
 /// The hook text determines the list: two lists of updates that have one text are one list.

@@ -1,6 +1,6 @@
 -- No call is done whose lease is below the fence.
 use Rattle.node_calls.proofs.FenceLemmas.{fence_stays, never_below, never_done}
-use Rattle.node_rows.proofs.OptionLemmas.{no_first}
+use Rattle.node_calls.proofs.OptionLemmas.{no_first}
 use Rattle.node_calls.proofs.laws.what_is_below_the_fence_changes_nothing.Goals as goal
 
 pub returns : goal.returns

@@ -1,7 +1,7 @@
 -- What a row tells of a repository is taken over.
 use Rattle.std.proofs.Common.{ℕ, List, sym, subst, ap}
 use Rattle.px_base.specs.RepoPath.{IsRepoPath}
-use Rattle.node_rows.specs.Place.{Place}
+use Rattle.node_calls.specs.ReplicaState.{ReplicaState}
 use Rattle.node_rows.specs.Reading.{said}
 use Rattle.px_node.proofs.OpeningLemmas.{told_put}
 use Rattle.px_node.proofs.Places.{Changes-put}
@@ -11,7 +11,7 @@ use Rattle.px_node.proofs.opening.take_replica.Goals as goal
 pub returns-in-Ok-put-clause-ok : goal.returns-in-Ok-put-clause-ok
 returns-in-Ok-put-clause-ok c =
     let row = c.in-Some.row in
-    let place : Place = said row.fence row.last row.held in
+    let place : ReplicaState = said row.fence row.last row.held in
     let old = c.args.replicas.now.entries in
     let new = c.put.new.replicas.entries in
     record {
@@ -34,5 +34,5 @@ pub returns-in-Ok-put-clause-told : goal.returns-in-Ok-put-clause-told
 returns-in-Ok-put-clause-told c =
     told_put c.args.replicas.now.entries c.put.new.replicas.entries c.in-Ok.repo
     c.told-replica.result c.in-Ok-put.ensures.ok c.requires.told c.is_lawful.ensures
-    (ap (λ (p : Place). p.ready) c.told-replica.ensures)
+    (ap (λ (p : ReplicaState). p.ready) c.told-replica.ensures)
     (subst IsRepoPath (sym c.in-Ok.ensures.ok.1) c.in-Ok.ensures.ok.0)

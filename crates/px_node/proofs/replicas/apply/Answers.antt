@@ -4,20 +4,20 @@ use Rattle.objstore.specs.Bundle.{bundle_fault}
 use Rattle.px_node.proofs.LawfulLemmas.{AreLawful-back}
 use Rattle.px_node.proofs.Places.{Changes-back, OnErr-on, OnOk-on, Same-back, place_here}
 use Rattle.node_replica.specs.Effects.{taken_over}
-use Rattle.node_rows.specs.Place.{Changes, Place, Same}
+use Rattle.node_calls.specs.ReplicaState.{Changes, ReplicaState, Same}
 use Rattle.px_node.specs.Shelf.{place_at}
 use Rattle.px_node.proofs.replicas.apply.Goals as goal
 
 pub apply-result-requires-clause-above : goal.apply-result-requires-clause-above
 apply-result-requires-clause-above g c =
-    subst (λ (p : Place). p.fence ≤ c.args.lease)
+    subst (λ (p : ReplicaState). p.fence ≤ c.args.lease)
     (place_here c.args.replicas.now.entries c.args.repo.now c.args.repo.now
     c.in-Some.replica.now refl c.in-Some.ensures.value)
     c.requires.above
 
 pub apply-result-requires-clause-comes : goal.apply-result-requires-clause-comes
 apply-result-requires-clause-comes g c =
-    subst (λ (p : Place). bundle_fault p.objects 0 c.args.objects.now ≡ None)
+    subst (λ (p : ReplicaState). bundle_fault p.objects 0 c.args.objects.now ≡ None)
     (place_here c.args.replicas.now.entries c.args.repo.now c.args.repo.now
     c.in-Some.replica.now refl c.in-Some.ensures.value)
     c.requires.comes

@@ -5,27 +5,27 @@ use Rattle.px_node.proofs.LawfulLemmas.{AreLawful-back}
 use Rattle.px_node.proofs.Places.{CommitsAt-back, IfOk-on, OnErr-on, Same-back, place_here}
 use Rattle.node_calls.specs.Calls.{ready_under}
 use Rattle.node_replica.specs.Effects.{CommitsAt, DoesReady}
-use Rattle.node_rows.specs.Place.{Place, Same}
+use Rattle.node_calls.specs.ReplicaState.{ReplicaState, Same}
 use Rattle.px_node.specs.Shelf.{place_at}
 use Rattle.px_node.proofs.replicas.commit.Goals as goal
 
 pub commit-result-requires-clause-above : goal.commit-result-requires-clause-above
 commit-result-requires-clause-above g c =
-    subst (λ (p : Place). p.fence ≤ c.args.lease)
+    subst (λ (p : ReplicaState). p.fence ≤ c.args.lease)
     (place_here c.args.replicas.now.entries c.args.repo.now c.args.repo.now
     c.in-Some.replica.now refl c.in-Some.ensures.value)
     c.requires.above
 
 pub commit-result-requires-clause-held : goal.commit-result-requires-clause-held
 commit-result-requires-clause-held g c =
-    subst (λ (p : Place). p.held ≡ true)
+    subst (λ (p : ReplicaState). p.held ≡ true)
     (place_here c.args.replicas.now.entries c.args.repo.now c.args.repo.now
     c.in-Some.replica.now refl c.in-Some.ensures.value)
     c.requires.held
 
 pub commit-result-requires-clause-ready : goal.commit-result-requires-clause-ready
 commit-result-requires-clause-ready g c =
-    subst (λ (p : Place). IsSome (ready_under c.args.lease p.ready))
+    subst (λ (p : ReplicaState). IsSome (ready_under c.args.lease p.ready))
     (place_here c.args.replicas.now.entries c.args.repo.now c.args.repo.now
     c.in-Some.replica.now refl c.in-Some.ensures.value)
     c.requires.ready

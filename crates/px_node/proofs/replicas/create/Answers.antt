@@ -3,12 +3,12 @@ use Rattle.std.specs.Option.{is_some}
 use Rattle.px_node.proofs.LawfulLemmas.{AreLawful-back}
 use Rattle.px_node.proofs.Places.{Changes-back, place_here}
 use Rattle.node_calls.specs.Calls.{created}
-use Rattle.node_rows.specs.Place.{Place}
+use Rattle.node_calls.specs.ReplicaState.{ReplicaState}
 use Rattle.px_node.proofs.replicas.create.Goals as goal
 
 pub create-requires : goal.create-requires
 create-requires c =
-    subst (λ (p : Place). p.fence ≤ c.args.lease)
+    subst (λ (p : ReplicaState). p.fence ≤ c.args.lease)
     (place_here c.args.replicas.now.entries c.args.repo.now c.args.repo.now
     c.in-Some.replica.now refl c.in-Some.ensures.value)
     c.requires.above

@@ -2,8 +2,8 @@ use Rattle.std.proofs.Common.{List, ℕ, None, false, ◌∙◌, sym, subst, ari
 use Rattle.px_base.specs.RefList.{is_name}
 use Rattle.std.specs.Map.{lookup}
 use Rattle.std.specs.Option.{IsSome}
-use Rattle.node_rows.proofs.LawfulPlaces.{IsLawfulPlace-said}
-use Rattle.node_rows.specs.Place.{nothing}
+use Rattle.node_rows.proofs.LawfulReplicas.{IsLawfulReplica-said}
+use Rattle.node_calls.specs.ReplicaState.{nothing}
 use Rattle.px_base.specs.RepoPath.{IsRepoPath}
 use Rattle.px_node.proofs.LawfulLemmas.{AreLawful-put}
 use Rattle.px_node.proofs.Places.{IsSome-put, Same-put, none_from_test}
@@ -26,7 +26,7 @@ returns-in_ok-put-clause-lawful c =
     nothing (subst (Puts c.args.replicas.now.entries c.put.new.replicas.entries c.in_ok-path.path)
     c.new.ensures c.in_ok-put.ensures.ok)
     (subst IsRepoPath (sym c.in_ok-path.ensures.value) c.in_ok-path.ensures.path)
-    (IsLawfulPlace-said 0 None false (omega arith) tt)
+    (IsLawfulReplica-said 0 None false (omega arith) tt)
 
 pub returns-in_ok-put-clause-room : goal.returns-in_ok-put-clause-room
 returns-in_ok-put-clause-room c =

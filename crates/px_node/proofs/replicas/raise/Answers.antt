@@ -2,7 +2,7 @@ use Rattle.std.proofs.Common.{ap, sym, refl}
 use Rattle.std.specs.Option.{is_some}
 use Rattle.px_node.proofs.LawfulLemmas.{AreLawful-back}
 use Rattle.px_node.proofs.Places.{Changes-back}
-use Rattle.node_rows.specs.Place.{raised}
+use Rattle.node_calls.specs.ReplicaState.{raised}
 use Rattle.px_node.proofs.replicas.raise.Goals as goal
 
 pub returns-in-Some-clause-changes : goal.returns-in-Some-clause-changes

@@ -1,6 +1,6 @@
 -- The ready push is done.
 use Rattle.std.proofs.Common.{◌+◌, ap, sym, ◌∙◌}
-use Rattle.node_rows.specs.Place.{Place}
+use Rattle.node_calls.specs.ReplicaState.{ReplicaState}
 use Rattle.node_replica.proofs.ReadyLemmas.{done_ready}
 use Rattle.node_replica.proofs.replica.Replica.commit.Goals as goal
 
@@ -9,5 +9,5 @@ invariant_of-self-2 g c =
     let inside = c.self.inside in
     done_ready inside.held inside.refs c.commit.new.refs inside.objects c.keep_with.new.store
     inside.fence (c.number.result + 1) inside.ready c.take.new.self c.in-Some.ready
-    (ap (λ (p : Place). p.held) c.self.view_is ∙ c.requires.held) (sym c.in-Some.ensures.value)
+    (ap (λ (p : ReplicaState). p.held) c.self.view_is ∙ c.requires.held) (sym c.in-Some.ensures.value)
     c.in-Some.ensures.after c.commit.ensures c.self.invariant.0 c.self.invariant.2

@@ -5,11 +5,11 @@ use Rattle.px_base.specs.RefList.{IsRefList, ref_at}
 use Rattle.px_base.specs.RepoPath.{IsRepoPath}
 use Rattle.px_base.specs.declared.hash.Hash.{Hash}
 use Rattle.objstore.specs.Entries.{AreSmall, IsStore}
-use Rattle.node_rows.specs.Place.{NodeState, Place, nothing}
+use Rattle.node_calls.specs.ReplicaState.{NodeState, ReplicaState, nothing}
 
 -- of one repository: a fence and a last lease that fit into their bytes, references and objects that
 -- a repository may have, and none of them where it is not held
-pub record IsLawfulPlace (place : Place) : Type 0 where
+pub record IsLawfulReplica (place : ReplicaState) : Type 0 where
   pub fence : place.fence < 2 ^ 64
   pub last : IfSome place.last (λ lease. lease < 2 ^ 64 - 1)
   pub refs : IsRefList place.refs
@@ -20,5 +20,5 @@ pub record IsLawfulPlace (place : Place) : Type 0 where
 
 -- such a place under each path, and nothing under what is no path
 pub record IsLawful (node : NodeState) : Type 0 where
-  pub places : (path : List ℕ) → IsLawfulPlace (node path)
+  pub places : (path : List ℕ) → IsLawfulReplica (node path)
   pub paths : (path : List ℕ) → IsRepoPath path ⊎ (node path ≡ nothing)

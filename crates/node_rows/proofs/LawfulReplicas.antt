@@ -5,9 +5,9 @@ use Rattle.std.specs.Prelude.{IfSome}
 use Rattle.px_base.proofs.Lists.{no_refs}
 use Rattle.px_base.specs.RepoPath.{IsRepoPath}
 use Rattle.objstore.specs.Entries.{IsStore}
-use Rattle.node_rows.proofs.RowLemmas.{this_or_other}
-use Rattle.node_rows.specs.Lawful.{IsLawful, IsLawfulPlace}
-use Rattle.node_rows.specs.Place.{Changes, NodeState, Place, nothing}
+use Rattle.node_calls.proofs.ReplicaLemmas.{this_or_other}
+use Rattle.node_calls.specs.Lawful.{IsLawful, IsLawfulReplica}
+use Rattle.node_calls.specs.ReplicaState.{Changes, NodeState, ReplicaState, nothing}
 use Rattle.node_rows.specs.Reading.{said}
 
 -- a repository may have no objects
@@ -16,9 +16,9 @@ unfolding IsStrictlySortedBy
 no_objects = record { ordered = tt; named = λ id object has. absurd (cc) }
 
 -- a repository may have what a row of table 6 says, where its numbers fit into their bytes
-pub IsLawfulPlace-said : (fence : ℕ) (last : Option ℕ) (held : Bool) → fence < 2 ^ 64
-    → IfSome last (λ lease. lease < 2 ^ 64 - 1) → IsLawfulPlace (said fence last held)
-IsLawfulPlace-said fence last held fence_fits last_fits = record {
+pub IsLawfulReplica-said : (fence : ℕ) (last : Option ℕ) (held : Bool) → fence < 2 ^ 64
+    → IfSome last (λ lease. lease < 2 ^ 64 - 1) → IsLawfulReplica (said fence last held)
+IsLawfulReplica-said fence last held fence_fits last_fits = record {
   fence = fence_fits;
   last = last_fits;
   refs = no_refs;
@@ -28,10 +28,10 @@ IsLawfulPlace-said fence last held fence_fits last_fits = record {
   empty = λ free. (refl, refl);
 }
 
-module _ (old new : NodeState) (path : List ℕ) (place : Place)
+module _ (old new : NodeState) (path : List ℕ) (place : ReplicaState)
     (changes : Changes old new path place) where
   -- what holds of all places, and of the one that changes, holds of all places afterwards
-  each_place : (P : List ℕ → Place → Type 0) → P path place → ((q : List ℕ) → P q (old q))
+  each_place : (P : List ℕ → ReplicaState → Type 0) → P path place → ((q : List ℕ) → P q (old q))
       → (q : List ℕ) → P q (new q)
   each_place P here each q = ⊎_elim
       (λ same. subst (λ (r : List ℕ). P r (new r)) same (subst (P path) (sym changes.here) here))
@@ -39,9 +39,9 @@ module _ (old new : NodeState) (path : List ℕ) (place : Place)
       (this_or_other old new path changes.others q)
 
   -- so it is lawful, where the place that changes is
-  pub IsLawful-changes : IsLawful old → IsRepoPath path → IsLawfulPlace place → IsLawful new
+  pub IsLawful-changes : IsLawful old → IsRepoPath path → IsLawfulReplica place → IsLawful new
   IsLawful-changes lawful is_path may = record {
-    places = each_place (λ q p. IsLawfulPlace p) may lawful.places;
+    places = each_place (λ q p. IsLawfulReplica p) may lawful.places;
     paths = each_place (λ q p. IsRepoPath q ⊎ (p ≡ nothing)) (inl is_path) lawful.paths;
   }
 

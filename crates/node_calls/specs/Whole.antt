@@ -5,13 +5,13 @@ use Rattle.px_base.specs.RefList.{IsRefList}
 use Rattle.objstore.specs.Bundle.{bundle_fault, with_objects}
 use Rattle.objstore.specs.Entries.{IsStore, object_at}
 use Rattle.objstore.specs.Reach.{IsClosed}
-use Rattle.refstore.specs.Hook.{AreUpdates}
+use Rattle.px_base.specs.Update.{AreUpdates}
 use Rattle.refstore.specs.Updates.{Fits, after}
-use Rattle.node_rows.specs.Place.{NodeState, Place, ReadyPush}
+use Rattle.node_calls.specs.ReplicaState.{NodeState, ReplicaState, ReadyPush}
 
 -- what holds of a push that is ready: its repository is held, and its lease is the fence; its
 -- updates may be done and its objects may come; and then all that the references lead to is there
-pub record IsSoundPush (place : Place) (push : ReadyPush) : Type 0 where
+pub record IsWholePush (place : ReplicaState) (push : ReadyPush) : Type 0 where
   pub held : place.held ≡ true
   pub fenced : push.lease ≡ place.fence
   pub updates : AreUpdates push.updates
@@ -22,12 +22,12 @@ pub record IsSoundPush (place : Place) (push : ReadyPush) : Type 0 where
 
 -- what holds of a repository: each object stands once, and under its own name; the references are
 -- what a repository may have; all that they lead to is there; and what holds of the push that is ready
-pub record IsSoundPlace (place : Place) : Type 0 where
+pub record IsWholeReplica (place : ReplicaState) : Type 0 where
   pub store : IsStore place.objects
   pub refs : IsRefList place.refs
   pub closed : IsClosed (object_at place.objects) (values_of place.refs)
-  pub ready : IfSome place.ready (λ push. IsSoundPush place push)
+  pub ready : IfSome place.ready (λ push. IsWholePush place push)
 
 -- it holds of each repository
-abbrev pub IsSound : NodeState → Type 0
-IsSound node = (path : List ℕ) → IsSoundPlace (node path)
+abbrev pub IsWhole : NodeState → Type 0
+IsWhole node = (path : List ℕ) → IsWholeReplica (node path)

@@ -8,12 +8,12 @@ use Rattle.px_base.specs.declared.hash.Hash.{Hash}
 use Rattle.px_base.specs.declared.push.Update.{Update}
 use Rattle.refstore.proofs.After.{Stands, after_cases, ascends-after}
 use Rattle.refstore.proofs.RefLists.{IsRefList-after}
-use Rattle.refstore.specs.Hook.{AreUpdates}
+use Rattle.px_base.specs.Update.{AreUpdates}
 use Rattle.refstore.specs.RefMap.{IsRefMap}
 use Rattle.refstore.specs.Updates.{Fits, after, first_conflict, first_fault, too_many}
 use Rattle.refstore.specs.declared.prepared.RefRefusal.{RefRefusal}
 use Rattle.refstore.specs.declared.prepared.RefRefusal.TheVariants.{TooManyRefs}
-use Rattle.node_rows.proofs.OptionLemmas.{no_first, no_second}
+use Rattle.node_calls.proofs.OptionLemmas.{no_first, no_second}
 
 -- the name of an update of the type is one
 pub name_stands : (updates : List Update) → AreUpdates updates → (update : Update)

@@ -15,7 +15,7 @@ pub record ReadyPush : Type 0 where
 -- what a node has of one repository: whether it is held, its references and objects, the fence, which
 -- is the least lease that an effect may carry, the lease of the last push that was done, and the push
 -- that is ready, if there is one
-pub record Place : Type 0 where
+pub record ReplicaState : Type 0 where
   pub held : Bool
   pub refs : References
   pub objects : Entries
@@ -24,7 +24,7 @@ pub record Place : Type 0 where
   pub ready : Option ReadyPush
 
 -- what it has of one that it never heard of
-abbrev pub nothing : Place
+abbrev pub nothing : ReplicaState
 nothing = record {
   held = false;
   refs = [];
@@ -35,21 +35,21 @@ nothing = record {
 }
 
 -- what it has without the push that is ready
-abbrev pub without_ready : Place → Place
+abbrev pub without_ready : ReplicaState → ReplicaState
 without_ready place = record place { ready = None }
 
 -- ---- nodes
 
 -- a node: what it has of each repository, by its path
 abbrev pub NodeState : Type 0
-NodeState = List ℕ → Place
+NodeState = List ℕ → ReplicaState
 
 -- the node has of each repository what it had
 abbrev pub Same : NodeState → NodeState → Type 0
 Same old new = (path : List ℕ) → new path ≡ old path
 
 -- it has this of the repository, and of each other what it had
-pub record Changes (old new : NodeState) (path : List ℕ) (place : Place) : Type 0 where
+pub record Changes (old new : NodeState) (path : List ℕ) (place : ReplicaState) : Type 0 where
   pub here : new path ≡ place
   pub others : (other : List ℕ) → other ≢ path → new other ≡ old other
 
@@ -61,7 +61,7 @@ kept_above fence None = None
 kept_above fence (Some push) = if nat_lt push.lease fence then None else Some push
 
 -- the fence is raised to the number, where that is above it
-abbrev pub raised : ℕ → Place → Place
+abbrev pub raised : ℕ → ReplicaState → ReplicaState
 raised to place = record {
   held = place.held;
   refs = place.refs;

@@ -33,7 +33,7 @@ pub use memory::{MemSink, MemSource};
 pub use object::{MAX_CONTENT_BYTES, Object};
 pub use path_list::PathList;
 pub use phase::Phase;
-pub use push::{Objects, Push, Update, Updates};
+pub use push::{Objects, Push, Update, Updates, are_updates};
 pub use ref_list::{MAX_REFS, RefList};
 pub use ref_name::RefName;
 pub use repo_path::RepoPath;

@@ -1,6 +1,6 @@
 //! The transactions that are open, by their numbers.
 
-ghost use Rattle.std.specs.Prelude.{◌≡◌, [], None, IfSome, IfNone, MatchResult};
+ghost use Rattle.std.specs.Prelude.{◌≡◌, [], None, IfSome, IfNone, MatchResult, OnErr};
 ghost use Rattle.txmanager.specs.Registry.{answer_at, are_lawful_rounds, rounds_refusal, transaction_at};
 ghost use Rattle.txmanager.specs.Registry.{with_changed, with_registered, without_transaction};
 ghost use Rattle.txmanager.specs.VoterCalls.{after_cancel_voter, after_cast, cancel_voter_answer, cast_answer};
@@ -26,7 +26,7 @@ pub fn are_lawful_rounds(rounds: u32) -> bool
 
 /// The transactions that are registered and not closed. A transaction is found by its number in
 /// logarithmic time. Only `register` takes memory; each other call leaves every transaction but the
-/// one that it names as it was.
+/// one that it names as it was. A refused call changes nothing.
 #[derive(Drop)]
 pub struct Manager {
     transactions: BTreeMap<u64, Transaction>,
@@ -93,19 +93,22 @@ impl Manager {
             (cast_answer voter.now phase hash.now) }
         ensures state { self.new
             ≡ with_changed self.old tx (after_cast voter.now phase hash.now) }
+        ensures same { OnErr result (self.new ≡ self.old) }
     {
         match self.transactions.get_mut(&tx.0) {
             Some(transaction) => transaction.cast(voter, phase, hash),
             None => Err(TxRefusal::UnknownTx(tx)),
         }
     }
-    /// Cancels a voter in its current subtransaction, and in each later one. Refused, in this order,
-    /// are `UnknownTx`, `NotAVoter`, `Finished`, `Canceled`, `Stopped`, and `Decided` where the voter
-    /// has failed.
+
+    /// Cancels a voter in its current subtransaction, and in each later one that is not stopped.
+    /// Refused, in this order, are `UnknownTx`, `NotAVoter`, `Finished`, `Canceled`, `Stopped`, and
+    /// `Decided` where the voter has failed.
     pub fn cancel_voter(&mut self, tx: TxId, voter: &StorageName) -> Result<(), TxRefusal>
         ensures answer { result ≡ answer_at (transaction_at self.old tx) tx
             (cancel_voter_answer voter.now) }
         ensures state { self.new ≡ with_changed self.old tx (after_cancel_voter voter.now) }
+        ensures same { OnErr result (self.new ≡ self.old) }
     {
         match self.transactions.get_mut(&tx.0) {
             Some(transaction) => transaction.cancel_voter(voter),
@@ -118,6 +121,7 @@ impl Manager {
     pub fn cancel(&mut self, tx: TxId) -> Result<(), TxRefusal>
         ensures answer { result ≡ answer_at (transaction_at self.old tx) tx done }
         ensures state { self.new ≡ with_changed self.old tx after_cancel }
+        ensures same { OnErr result (self.new ≡ self.old) }
     {
         match self.transactions.get_mut(&tx.0) {
             Some(transaction) => {
@@ -132,6 +136,7 @@ impl Manager {
     pub fn stop(&mut self, tx: TxId) -> Result<(), TxRefusal>
         ensures answer { result ≡ answer_at (transaction_at self.old tx) tx stop_answer }
         ensures state { self.new ≡ with_changed self.old tx after_stop }
+        ensures same { OnErr result (self.new ≡ self.old) }
     {
         match self.transactions.get_mut(&tx.0) {
             Some(transaction) => transaction.stop(),
@@ -165,6 +170,7 @@ impl Manager {
     pub fn close(&mut self, tx: TxId) -> Result<(), TxRefusal>
         ensures answer { result ≡ answer_at (transaction_at self.old tx) tx done }
         ensures state { self.new ≡ without_transaction self.old tx }
+        ensures same { OnErr result (self.new ≡ self.old) }
     {
         match self.transactions.remove(&tx.0) {
             Some(_) => Ok(()),

@@ -1,4 +1,4 @@
--- What each call on a node does at the place of its repository, and why it may be refused there.
+-- What each call on a node does to the replica of its repository, and why it may be refused there.
 use Rattle.std.specs.Prelude.{◌≡◌, ◌⊎◌, ◌+◌, ◌&&◌, ◌==◌, ℕ, Bool, true, false, not, List, [], ◌∷◌, map, nat_lt, if◌then◌else◌, Option, None, Some}
 use Rattle.std.specs.List.{filter}
 use Rattle.std.specs.Map.{values_of}

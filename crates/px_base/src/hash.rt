@@ -35,6 +35,17 @@ impl Hash {
         Hash([0; 20])
     }
 
+    /// Its bytes, of which there are 20.
+    pub fn as_bytes(&self) -> &[u8]
+        ensures value { result.now ≡ self.now.0 }
+        ensures hash { IsHash self.now }
+    {
+        // A proof knows that there are 20 once one is read.
+        let bytes: &[u8] = &self.0;
+        let _first = bytes[0];
+        bytes
+    }
+
     /// Whether it is the zero name.
     pub fn is_zero(&self) -> bool
         ensures { result ≡ is_zero self.now }
@@ -64,7 +75,7 @@ impl Hash {
         ensures { result ≡ hash_text self.now }
     {
         let mut text = [0; 40];
-        let _ = hex::encode_to_slice(self.0.as_slice(), &mut text);
+        let _ = hex::encode_to_slice(self.as_bytes(), &mut text);
         text
     }
 }

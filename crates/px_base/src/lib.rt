@@ -2,6 +2,7 @@
 //! go out by.
 #![tactic(auto)]
 
+mod failing;
 mod hash;
 mod ids;
 mod items;
@@ -23,6 +24,7 @@ mod storage_name;
 mod voter;
 mod words;
 
+pub use failing::FailingCalls;
 pub use hash::{Hash, ObjectId, a_hash_and_its_text_are_one, is_hex_digit};
 pub use ids::TxId;
 pub use items::{Bytes, Ids, Items};
@@ -33,7 +35,7 @@ pub use memory::{MemSink, MemSource};
 pub use object::{MAX_CONTENT_BYTES, Object};
 pub use path_list::PathList;
 pub use phase::Phase;
-pub use push::{Objects, Push, Update, Updates};
+pub use push::{Objects, Push, Update, Updates, are_updates};
 pub use ref_list::{MAX_REFS, RefList};
 pub use ref_name::RefName;
 pub use repo_path::RepoPath;

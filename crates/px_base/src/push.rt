@@ -1,5 +1,7 @@
 //! What a push brings to a repository.
 
+ghost use Rattle.px_base.specs.Update.{AreUpdates, IsUpdate};
+
 use crate::{Hash, Items, Object, RefName};
 
 /// A reference to be changed, as a line of the reference-transaction hook's input names it
@@ -28,4 +30,24 @@ pub struct Push {
     pub updates: Updates,
     /// The objects that the new names lead to, as far as they come with the push.
     pub objects: Objects,
+}
+
+/// Tells contracts what each value of a list of updates is: two hashes of 20 bytes, and the name of a
+/// reference. The types keep it, and a proof knows it once the parts are read. Changes nothing, and
+/// takes no memory.
+pub fn are_updates(updates: &[Update])
+    ensures { AreUpdates updates.now }
+{
+    for update in updates {
+        is_update(update);
+    }
+}
+
+// The same of one.
+fn is_update(update: &Update)
+    ensures { IsUpdate update.now }
+{
+    let _old = update.old.as_bytes();
+    let _new = update.new.as_bytes();
+    let _name = update.name.as_bytes();
 }

@@ -14,3 +14,6 @@ returns-clause-same c =
     refused_same c.args.self.now _ c.args.tx (after_cancel_voter c.args.voter.now) (cancel_voter_answer c.args.voter.now) _
     (λ voting. on_unless_err (cancel_voter_answer c.args.voter.now voting) voting _)
     (returns-clause-answer c) (returns-clause-state c)
+
+pub returns-clause-call : goal.returns-clause-call
+returns-clause-call c = returns-clause-state c

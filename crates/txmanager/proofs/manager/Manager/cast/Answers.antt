@@ -14,3 +14,6 @@ returns-clause-same c =
     refused_same c.args.self.now _ c.args.tx (after_cast c.args.voter.now c.args.phase c.args.hash.now) (cast_answer c.args.voter.now c.args.phase c.args.hash.now) _
     (λ voting. on_unless_err (cast_answer c.args.voter.now c.args.phase c.args.hash.now voting) voting _)
     (returns-clause-answer c) (returns-clause-state c)
+
+pub returns-clause-call : goal.returns-clause-call
+returns-clause-call c = returns-clause-state c

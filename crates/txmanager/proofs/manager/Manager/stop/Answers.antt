@@ -13,3 +13,6 @@ pub returns-clause-same : goal.returns-clause-same
 returns-clause-same c =
     refused_same c.args.self.now _ c.args.tx after_stop stop_answer _ (λ voting. on_unless_err (stop_answer voting) voting _)
     (returns-clause-answer c) (returns-clause-state c)
+
+pub returns-clause-call : goal.returns-clause-call
+returns-clause-call c = returns-clause-state c

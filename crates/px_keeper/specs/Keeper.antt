@@ -34,14 +34,8 @@ ScanGives rows table after (Some found) = IsNext rows table after found.0 found.
 ScanGives rows table after None =
     (key : List ℕ) → IsAbove after key → row_at rows table key ≡ None
 
--- ---- a keeper that tells whether its next commit fails
-
--- a reading leaves what is told as it was; and where it is told, the reading does not fail
-abbrev pub LeavesPlan : {A : Type 0} → Option Bool → Option Bool → Result A KeepFault → Type 0
-LeavesPlan None told result = told ≡ None
-LeavesPlan (Some fails) told result = (told ≡ Some fails) × (result ≢ Err Failed)
-
--- a commit fails exactly where that was told, and then it is told that the next one does not
+-- where a keeper tells whether its next commit fails, the commit fails exactly so, and then it tells
+-- that the next one does not
 abbrev pub KeepsPlan : {A : Type 0} → Option Bool → Option Bool → Result A KeepFault → Type 0
 KeepsPlan None told result = told ≡ None
 KeepsPlan (Some true) told result = (told ≡ Some false) × (result ≡ Err Failed)

@@ -1,10 +1,10 @@
 //! A keeper of rows, with a count of its faults.
 
-ghost use Rattle.std.specs.Prelude.{◌≡◌, ℕ, Bool, Option, None, IfOk, IfSome, OnOk, OnErr};
+ghost use Rattle.std.specs.Prelude.{◌≡◌, ◌≢◌, ℕ, Bool, Option, None, Err, IsSome, IfOk, IfSome, OnOk, OnErr};
 ghost use Rattle.std.specs.Option.{option_copied, option_map};
 ghost use Rattle.px_keeper.specs.Row.{Rows, row_at};
 ghost use Rattle.px_keeper.specs.Change.{applied};
-ghost use Rattle.px_keeper.specs.Keeper.{KeepHasCause, KeepsPlan, LeavesPlan, ScanGives};
+ghost use Rattle.px_keeper.specs.Keeper.{KeepHasCause, KeepsPlan, ScanGives};
 
 use crate::Batch;
 use px_base::Bytes;
@@ -47,7 +47,8 @@ pub trait Keeper {
         ensures value { IfOk result (λ found.
             IfSome (rows self.old) (λ kept. found ≡ row_at kept table key.now)) }
         ensures same { rows self.new ≡ rows self.old }
-        ensures plan { LeavesPlan (commit_fails self.old) (commit_fails self.new) result }
+        ensures plan { commit_fails self.new ≡ commit_fails self.old }
+        ensures sure { IsSome (commit_fails self.old) → result ≢ Err KeepFault.Failed }
         ensures cause { KeepHasCause (keep_faults self.old) (keep_faults self.new) result };
 
     /// Copies of the least key of the table above `after`, or of the least of all where `after` is
@@ -62,7 +63,8 @@ pub trait Keeper {
             IfSome (rows self.old) (λ kept.
             ScanGives kept table (option_copied after.entry) found)) }
         ensures same { rows self.new ≡ rows self.old }
-        ensures plan { LeavesPlan (commit_fails self.old) (commit_fails self.new) result }
+        ensures plan { commit_fails self.new ≡ commit_fails self.old }
+        ensures sure { IsSome (commit_fails self.old) → result ≢ Err KeepFault.Failed }
         ensures cause { KeepHasCause (keep_faults self.old) (keep_faults self.new) result };
 
     /// Makes the changes of a batch, one after the other. An error leaves the rows as they were.

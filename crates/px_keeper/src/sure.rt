@@ -11,7 +11,7 @@ use std::alloc::Global;
 #[derive(Drop)]
 pub struct SureKeeper {
     keeper: MemKeeper,
-    ghost sure: { keeper.failing.items ≡ [] },
+    ghost sure: { keeper.calls.failing ≡ [] },
 }
 
 impl SureKeeper {

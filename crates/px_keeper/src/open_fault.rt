@@ -1,13 +1,12 @@
-//! Why a node was not opened.
+//! Why what rows say was not read out of a keeper.
 
 use px_base::Bytes;
 
-/// Why a node was not opened over the rows of a keeper. Each hands the keeper back, with its rows as
-/// they were.
+/// Why what rows say was not read out of a keeper. Each hands the keeper back, with its rows as they
+/// were.
 #[derive(Drop)]
 pub enum OpenFault<K> {
-    /// A row that a node may not have (docs/records.md): the first one, in the order of the tables and
-    /// of the keys in a table.
+    /// A row is bad: the first one, in the order of the tables and of the keys in a table.
     BadRow {
         /// The keeper.
         keeper: K,

@@ -1,13 +1,14 @@
 use Rattle.std.proofs.Common.{◌≡◌, None}
-use Rattle.px_node.specs.Opening.{AreTold, ReadTo}
-use Rattle.px_node.specs.Shelf.{place_at}
-use Rattle.px_node.proofs.opening.read_rows.Given as goal
+use Rattle.px_keeper.specs.Unread.{ReadUpTo}
+use Rattle.px_keeper.proofs.reading.read_rows.Given as goal
 
 -- the tables before this one were read; the keeper is as it was
 abbrev pub invariant-loop-table : goal.invariant-loop-table
 invariant-loop-table g l = record {
-  told : AreTold l.replicas.entries;
-  read : ReadTo (g.K.Keeper.rows l.keeper) l.table None (place_at l.replicas.entries);
+  whole : g.T.TakeRows.whole l.taker;
+  read : ReadUpTo g.T.TakeRows.good (g.T.TakeRows.has l.taker) (g.K.Keeper.rows l.keeper) l.table
+      None;
   same : g.K.Keeper.rows l.keeper ≡ g.K.Keeper.rows l.fn.keeper;
   count : g.K.Keeper.keep_faults l.keeper ≡ g.K.Keeper.keep_faults l.fn.keeper;
+  plan : g.K.Keeper.commit_fails l.keeper ≡ g.K.Keeper.commit_fails l.fn.keeper;
 }

@@ -7,7 +7,6 @@ pub mod LawfulReplicas
 pub mod ObjectRows
 pub mod OneNode
 pub mod OneRef
-pub mod ReadBytes
 pub mod ReadHeld
 pub mod ReadObject
 pub mod ReadRef

@@ -6,8 +6,8 @@ ghost use Rattle.script_run.specs.Stream.{streams};
 ghost use Rattle.px_world.specs.Machine.{machine};
 ghost use Rattle.px_world.specs.Rehearsal.{Rehearses, input_limit};
 
-use crate::{Event, Reply, World, line_of};
-use px_base::{Sink, Source};
+use crate::{Event, Reply, World, add_line};
+use px_base::{Bytes, Sink, Source};
 use px_script::{ScriptLine, read_line};
 use script_run::{Act, RehearseEnd, StateMachine, run_script};
 use std::alloc::Global;
@@ -33,7 +33,7 @@ impl StateMachine for World {
     ghost one_answer = { λ s s' s'' e r r' a b.
         (a.answers ∙ sym b.answers, a.leads ∙ sym b.leads) };
 
-    fn act(&mut self, alloc: Global, line: &[u8]) -> Act {
+    fn act(&mut self, alloc: Global, line: &[u8], text: &mut Bytes) -> Act {
         let event = match read_line(alloc, line) {
             ScriptLine::Asks(event) => event,
             ScriptLine::Nothing => return Act::Nothing,
@@ -43,8 +43,8 @@ impl StateMachine for World {
         let Ok(reply) = self.step(alloc, &event) else {
             return Act::Memory;
         };
-        match line_of(alloc, &reply) {
-            Ok(text) => Act::Prints(text),
+        match add_line(text, &reply) {
+            Ok(()) => Act::Prints,
             Err(_) => Act::Memory,
         }
     }

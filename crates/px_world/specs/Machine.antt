@@ -1,5 +1,5 @@
 -- The machine that a rehearsal drives: what each event answers, and where it leads.
-use Rattle.std.specs.Prelude.{◌+◌, ◌-◌, ◌^◌, nat_lt, Bool, true, false, if◌then◌else◌, List, ℕ, Option, None, Some}
+use Rattle.std.specs.Prelude.{◌≡◌, ◌+◌, ◌-◌, ◌^◌, nat_lt, Bool, true, false, if◌then◌else◌, List, ℕ, Option, None, Some}
 use Rattle.px_base.specs.declared.ids.TxId.{TxId}
 use Rattle.px_base.specs.declared.voter.Voter.{Voter}
 use Rattle.px_script.specs.Spelling.{Asks}
@@ -101,6 +101,11 @@ next_state state (Close tx) = record {
 next_state state (Collect tx voter sub) = state
 next_state state (Outcome tx sub) = state
 
+-- an event is answered so, and leads there
+pub record Does (state : State) (event : Event) (reply : Reply) (then_ : State) : Type 0 where
+  pub answers : reply ≡ reply_of state event
+  pub leads : then_ ≡ next_state state event
+
 -- the machine: its lines, its steps and its texts
 abbrev pub machine : MachineOf State Event Reply
-machine = record { asks = Asks; next = next_state; reply = reply_of; text = text_of }
+machine = record { asks = Asks; does = Does; text = text_of }

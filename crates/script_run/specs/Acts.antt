@@ -5,19 +5,21 @@ use Rattle.script_run.specs.Script.{IsBad}
 use Rattle.script_run.specs.declared.machine.Act.{Act}
 use Rattle.script_run.specs.declared.machine.Act.TheVariants as act
 
--- the line asks an event, which led from s to s'
+-- the line asks an event, which is answered so and led from s to s'
 pub record Does {S E R : Type 0} (m : Machine S E R) (s s' : S) (line : List ℕ) : Type 0 where
   pub event : E
   pub asks : m.asks (Some event) line
-  pub state : s' ≡ m.next s event
+  pub reply : R
+  pub does_ : m.does s event reply s'
 
 -- the line asks an event, which led from s to s', and this is printed of its reply
 pub record Prints {S E R : Type 0} (m : Machine S E R) (s s' : S) (line text : List ℕ)
     : Type 0 where
   pub event : E
   pub asks : m.asks (Some event) line
-  pub state : s' ≡ m.next s event
-  pub printed : text ≡ m.text (m.reply s event)
+  pub reply : R
+  pub does_ : m.does s event reply s'
+  pub printed : text ≡ m.text reply
 
 -- what a machine in state s did with the line, and its state after that
 abbrev pub Acts : {S E R : Type 0} → Machine S E R → S → S → List ℕ → Act → Type 0

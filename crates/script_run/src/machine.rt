@@ -1,7 +1,7 @@
 //! A machine that the lines of a script drive.
 
 ghost use Rattle.script_run.specs.Acts.{Acts};
-ghost use Rattle.script_run.specs.Machine.{Machine};
+ghost use Rattle.script_run.specs.Machine.{IsDetermined, Machine};
 
 use px_base::Bytes;
 use std::alloc::Global;
@@ -27,10 +27,19 @@ pub trait StateMachine {
     /// What the machine answers.
     type Reply;
 
-    /// What the events of the machine do.
-    ghost machine: { Machine Self Self.Event Self.Reply };
+    /// What a state of the machine is, as contracts see it.
+    ghost State: { Type 0 };
+
+    /// The state that the machine is in.
+    ghost state: { Self → State };
+
+    /// What the events of the machine may do.
+    ghost machine: { Machine State Self.Event Self.Reply };
 
     /// Does what a line asks.
     fn act(&mut self, alloc: Global, line: &[u8]) -> Act
-        ensures { Acts machine self.old self.new line.now result };
+        ensures { Acts machine (state self.old) (state self.new) line.now result };
+
+    /// A law: an event has one answer in each state, and leads to one.
+    ghost one_answer: { IsDetermined machine };
 }

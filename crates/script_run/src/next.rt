@@ -1,6 +1,7 @@
 //! The next line of a script, under the limit of a line and that of the whole input.
 
 ghost use Rattle.script_run.specs.Next.{NextGives, NextHasCause};
+ghost use Rattle.script_run.specs.Stream.{stream};
 
 use crate::MAX_LINE_BYTES;
 use px_base::{Bytes, Piece, Source, read_piece};
@@ -9,10 +10,13 @@ use std::alloc::Global;
 /// What came of a script.
 #[derive(Drop)]
 pub(crate) enum Next {
-    /// A line, whose line feed came.
-    Line(Bytes),
-    /// The last line, which lacks its line feed.
-    Last(Bytes),
+    /// A line, without its line feed.
+    Line {
+        /// The bytes of the line.
+        line: Bytes,
+        /// Whether it is the last one, which has a byte and lacks its line feed.
+        last: bool,
+    },
     /// Nothing was left.
     End,
     /// A line above the greatest length.
@@ -27,8 +31,10 @@ pub(crate) enum Next {
 
 /// Reads a line of a script of which `room` bytes more may come. Where one byte passes both limits, the line is overlong.
 pub(crate) fn next_line<S: Source>(alloc: Global, input: &mut S, room: u64) -> Next
-    ensures bytes { NextGives room (S.left input.old) (S.left input.new) result }
-    ensures cause { NextHasCause (S.read_faults input.old) (S.read_faults input.new) result }
+    ensures bytes { NextGives room (stream (S.left input.old) (S.read_faults input.old))
+        (stream (S.left input.new) (S.read_faults input.new)) result }
+    ensures cause { NextHasCause (stream (S.left input.old) (S.read_faults input.old))
+        (stream (S.left input.new) (S.read_faults input.new)) result }
 {
     let max = (MAX_LINE_BYTES as u64).min(room) as usize;
     match read_piece(alloc, input, max) {
@@ -36,9 +42,9 @@ pub(crate) fn next_line<S: Source>(alloc: Global, input: &mut S, room: u64) -> N
             if line.len() as u64 >= room {
                 return Next::TooLong;
             }
-            Next::Line(line)
+            Next::Line { line, last: false }
         }
-        Piece::Last(line) => Next::Last(line),
+        Piece::Last(line) => Next::Line { line, last: true },
         Piece::End => Next::End,
         Piece::TooLong => {
             if room >= MAX_LINE_BYTES as u64 {

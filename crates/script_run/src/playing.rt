@@ -1,6 +1,7 @@
 //! One line of a script: what the machine does, and what goes out.
 
 ghost use Rattle.script_run.specs.Play.{Plays};
+ghost use Rattle.script_run.specs.Stream.{stream};
 
 use crate::{Act, StateMachine};
 use px_base::{Sink, WrittenEnd, write_all};
@@ -26,8 +27,9 @@ pub(crate) fn play_line<M: StateMachine, O: Sink>(
     line: &[u8],
     out: &mut O,
 ) -> Play
-    ensures { Plays M.machine machine.old machine.new (O.taken out.old) (O.taken out.new)
-        (O.write_faults out.old) (O.write_faults out.new) line.now result }
+    ensures { Plays M.machine (M.state machine.old) (M.state machine.new)
+        (stream (O.taken out.old) (O.write_faults out.old))
+        (stream (O.taken out.new) (O.write_faults out.new)) line.now result }
 {
     match machine.act(alloc, line) {
         Act::Nothing => Play::Done,

@@ -2,8 +2,8 @@
 
 use crate::calls::{Answers, play};
 use px_base::{MemSink, MemSource, StorageName, TxId};
-use script_run::{Act, StateMachine};
 use px_world::{Event, Refusal, RehearseEnd, Reply, World, line_of, rehearse};
+use script_run::{Act, StateMachine};
 use std::alloc::Global;
 use std::test::Fail;
 use txmanager::TxRefusal;

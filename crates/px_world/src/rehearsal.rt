@@ -6,8 +6,8 @@ ghost use Rattle.script_run.specs.Stream.{streams};
 ghost use Rattle.px_world.specs.Machine.{machine};
 ghost use Rattle.px_world.specs.Rehearsal.{Rehearses, input_limit};
 
-use crate::{Event, Reply, World, line_of};
-use px_base::{Sink, Source};
+use crate::{Event, Reply, World, add_line};
+use px_base::{Bytes, Sink, Source};
 use px_script::{ScriptLine, read_line};
 use script_run::{Act, RehearseEnd, StateMachine, run_script};
 use std::alloc::Global;
@@ -43,8 +43,9 @@ impl StateMachine for World {
         let Ok(reply) = self.step(alloc, &event) else {
             return Act::Memory;
         };
-        match line_of(alloc, &reply) {
-            Ok(text) => Act::Prints(text),
+        let mut text = Bytes::new(alloc);
+        match add_line(&mut text, &reply) {
+            Ok(()) => Act::Prints(text),
             Err(_) => Act::Memory,
         }
     }

@@ -33,7 +33,7 @@ impl StateMachine for World {
     ghost one_answer = { λ s s' s'' e r r' a b.
         (a.answers ∙ sym b.answers, a.leads ∙ sym b.leads) };
 
-    fn act(&mut self, alloc: Global, line: &[u8]) -> Act {
+    fn act(&mut self, alloc: Global, line: &[u8], text: &mut Bytes) -> Act {
         let event = match read_line(alloc, line) {
             ScriptLine::Asks(event) => event,
             ScriptLine::Nothing => return Act::Nothing,
@@ -43,9 +43,8 @@ impl StateMachine for World {
         let Ok(reply) = self.step(alloc, &event) else {
             return Act::Memory;
         };
-        let mut text = Bytes::new(alloc);
-        match add_line(&mut text, &reply) {
-            Ok(()) => Act::Prints(text),
+        match add_line(text, &reply) {
+            Ok(()) => Act::Prints,
             Err(_) => Act::Memory,
         }
     }

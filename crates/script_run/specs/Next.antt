@@ -47,14 +47,14 @@ pub record IsPart (limit : ℕ) (old new : Stream) (before : List ℕ) : Type 0 
   pub fits : length (before ++ rest) ≤ limit
   pub consumed : Consumes old.bytes new.bytes (before ++ rest)
 
--- what reading a line came to, by the source before and after
-abbrev pub NextGives : ℕ → Stream → Stream → Next → Type 0
-NextGives room old new (next.Line line last) = IsLine room old new [] line last
-NextGives room old new next.End = Keeps old.bytes new.bytes × IsAtEnd new.bytes
-NextGives room old new next.Overlong = (line : List ℕ) × IsOverlong room old new [] line
-NextGives room old new next.TooLong = IsTooLong room old new []
-NextGives room old new next.ReadFault = IsPart room old new []
-NextGives room old new next.Memory = IsPart room old new []
+-- what reading a line came to, by the source before and after, and by the bytes of the line
+abbrev pub NextGives : ℕ → Stream → Stream → List ℕ → Next → Type 0
+NextGives room old new line (next.Line last) = IsLine room old new [] line last
+NextGives room old new line next.End = Keeps old.bytes new.bytes × IsAtEnd new.bytes
+NextGives room old new line next.Overlong = (long : List ℕ) × IsOverlong room old new [] long
+NextGives room old new line next.TooLong = IsTooLong room old new []
+NextGives room old new line next.ReadFault = IsPart room old new []
+NextGives room old new line next.Memory = IsPart room old new []
 
 -- a read fault comes only where the count rose, and the count stays otherwise
 abbrev pub NextHasCause : Stream → Stream → Next → Type 0

@@ -6,7 +6,7 @@ ghost use Rattle.script_run.specs.Stream.{streams};
 use crate::StateMachine;
 use crate::next::{Next, next_line};
 use crate::playing::{Play, play_line};
-use px_base::{Sink, Source};
+use px_base::{Bytes, Sink, Source};
 use std::alloc::Global;
 
 /// What the run of a script came to.
@@ -47,18 +47,20 @@ pub fn run_script<M: StateMachine, S: Source, O: Sink>(
         (streams (S.left input.new) (S.read_faults input.new)
         (O.taken out.new) (O.write_faults out.new)) result }
 {
+    let mut line = Bytes::new(alloc);
+    let mut text = Bytes::new(alloc);
     let mut room = limit;
     let mut number: u64 = 0;
     loop {
-        let (line, last) = match next_line(alloc, input, room) {
-            Next::Line { line, last } => (line, last),
+        let last = match next_line(input, room, &mut line) {
+            Next::Line { last } => last,
             Next::End => return RehearseEnd::Done,
             Next::Overlong => return RehearseEnd::BadLine(number + 1),
             Next::TooLong => return RehearseEnd::TooLong,
             Next::ReadFault => return RehearseEnd::ReadFault,
             Next::Memory => return RehearseEnd::Memory,
         };
-        match play_line(alloc, machine, line.as_slice(), out) {
+        match play_line(alloc, machine, line.as_slice(), &mut text, out) {
             Play::Done => {}
             Play::Bad => return RehearseEnd::BadLine(number + 1),
             Play::WriteFault => return RehearseEnd::WriteFault,

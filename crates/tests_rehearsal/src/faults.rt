@@ -98,7 +98,7 @@ fn want_of_memory_is_told(rt: HostRuntime) -> Result<(), Fail> {
 struct Processes;
 
 // The exit status, where it is one of those that are wanted.
-fn code(status: ExitCode) -> &str {
+fn code(status: ExitCode) -> &'static str {
     for (known, code) in [(0, "0"), (2, "2"), (6, "6")] {
         if status == ExitCode::from(known) {
             return code;

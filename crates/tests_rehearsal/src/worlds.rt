@@ -14,9 +14,11 @@ fn printed(bytes: &[u8]) -> &str {
     text.strip_suffix("\n").unwrap_or("no line feed")
 }
 
+// What a line comes to. What is printed of it is added to a text that holds a word.
 fn act(alloc: Global, world: &mut World, line: &str) -> Result<String, Fail> {
-    match world.act(alloc, line.as_bytes()) {
-        Act::Prints(text) => Ok(String::from_str(alloc, printed(text.as_slice()))?),
+    let mut text = Bytes::from_slice(alloc, b"before ")?;
+    match world.act(alloc, line.as_bytes(), &mut text) {
+        Act::Prints => Ok(String::from_str(alloc, printed(text.as_slice()))?),
         Act::Nothing => Ok(String::from_str(alloc, "nothing")?),
         Act::Bad => Ok(String::from_str(alloc, "bad")?),
         Act::Memory => Ok(String::from_str(alloc, "memory")?),
@@ -68,9 +70,9 @@ impl Answers for World {
 
 // The number is 2^64 - 1.
 const LAST_NUMBER: &str = "\
-    act open 1 1 a:1->tx 18446744073709551615
-    act open 1 1 a:1->refused TransactionsSpent
-    act outcome 18446744073709551615 1->open
+    act open 1 1 a:1->before tx 18446744073709551615
+    act open 1 1 a:1->before refused TransactionsSpent
+    act outcome 18446744073709551615 1->before open
     act # nothing->nothing
     act nothing->bad";
 
@@ -85,7 +87,7 @@ fn the_last_number_is_given_once(rt: HostRuntime) -> Result<(), Fail> {
 }
 
 const STEPS: &str = "\
-    act open 1 1 a:1->tx 1
+    act open 1 1 a:1->before tx 1
     step collect->counted open
     step outcome->outcome open
     step stop->unknown refused UnknownTx 2

@@ -2,7 +2,7 @@
 
 use crate::calls::{Answers, play};
 use px_base::{
-    LineEnd, MemSink, MemSource, Piece, ReadEnd, Sink, Source, StdSink, StdSource, line,
+    Bytes, LineEnd, MemSink, MemSource, Piece, ReadEnd, Sink, Source, StdSink, StdSource, line,
     read_piece, write_all,
 };
 use std::alloc::Global;
@@ -25,9 +25,11 @@ fn next_line(alloc: Global, source: &mut MemSource) -> Result<String, Fail> {
 }
 
 fn next_piece(alloc: Global, source: &mut MemSource) -> Result<String, Fail> {
-    match read_piece(alloc, source, 2) {
-        Piece::Line(bytes) => shown(alloc, "line", bytes.as_slice()),
-        Piece::Last(bytes) => shown(alloc, "last", bytes.as_slice()),
+    // What stood in the buffer before is not of the line.
+    let mut bytes = Bytes::from_slice(alloc, b"stale")?;
+    match read_piece(source, 2, &mut bytes) {
+        Piece::Line => shown(alloc, "line", bytes.as_slice()),
+        Piece::Last => shown(alloc, "last", bytes.as_slice()),
         _ => Ok(String::from_str(alloc, "another")?),
     }
 }

@@ -2,7 +2,7 @@
 use Rattle.std.proofs.Common.{◌≡◌, length}
 use Rattle.px_script.specs.Words.{voters_of}
 use Rattle.px_script.proofs.VoterLemmas.{after_these}
-use Rattle.px_script.proofs.voters.read_voters.Given as goal
+use Rattle.px_script.proofs.voter_list.read_voters.Given as goal
 
 abbrev pub invariant-loop-word : goal.invariant-loop-word
 invariant-loop-word l = voters_of l.initial.words ≡ after_these l.voters (voters_of l.words)

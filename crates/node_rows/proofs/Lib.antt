@@ -2,6 +2,7 @@ pub mod Alike
 pub mod Before
 pub mod FirstBad
 pub mod GoodRows
+pub mod GoodStand
 pub mod KeyLemmas
 pub mod LawfulReplicas
 pub mod ObjectRows

@@ -103,7 +103,7 @@ module _ (rows : Rows) (last : Option (List ℕ)) (old : NodeState) (key value :
   }
 
   -- a node may have the row, so its object comes
-  ObjectComes-row : (is : IsObjectRow rows key value)
+  pub ObjectComes-row : (is : IsObjectRow rows key value)
       → ObjectComes old key value is.path is.id is.object
   ObjectComes-row is = record {
     parts = is.parts;

@@ -184,7 +184,7 @@ module _ (rows : Rows) (last : Option (List ℕ)) (old : NodeState) (key value :
       }
 
   -- a node may have the row, so its reference comes
-  RefComes-row : (is : IsRefRow rows key value) → RefComes old key value is.path is.name is.id
+  pub RefComes-row : (is : IsRefRow rows key value) → RefComes old key value is.path is.name is.id
   RefComes-row is =
       let refs : References = (old is.path).refs in
       let lawful = (reads.has.lawful.places is.path).refs in

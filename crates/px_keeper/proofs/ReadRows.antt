@@ -53,7 +53,7 @@ above_from_not (Some last) key not_up =
     keys_total.antisymm last key ∙ greater (key_cmp key last) (not-false _ not_up)
 
 -- and one above it is not up to it
-not_up_to : (last : Option (List ℕ)) (key : List ℕ) → IsAbove last key
+pub not_up_to : (last : Option (List ℕ)) (key : List ℕ) → IsAbove last key
     → is_up_to last key ≡ false
 not_up_to None key above = refl
 not_up_to (Some last) key above = ap (λ (o : Ordering). not (is_gt o))
@@ -123,7 +123,7 @@ module _ (rows : Rows) (table : ℕ) (last : Option (List ℕ)) (key value : Lis
   -- ---- the rows up to it
 
   -- it is read then
-  here_is_read : is_read table (Some key) (row_key table key) ≡ true
+  pub here_is_read : is_read table (Some key) (row_key table key) ≡ true
   here_is_read = or_right _ _ (and_from _ _ (eq-eqb table table refl)
       (ap (λ (o : Ordering). not (is_gt o)) (tied_itself keys_total key)))
 

@@ -16,10 +16,10 @@ use Rattle.px_keeper.specs.declared.reading.Unread.TheVariants.{BadRow}
 use Rattle.px_keeper.specs.declared.row_key.RowKey.{RowKey}
 
 -- before the first table no row was read
-none_read : (row : RowKey) → is_read 0 None row ≡ false
+pub none_read : (row : RowKey) → is_read 0 None row ≡ false
 none_read row = or_from _ _ (le-ltb row.table 0 (omega arith)) (and_right _ _ refl)
 
-nothing_read : (rows : Rows) → no_rows ≡ read_so_far rows 0 None
+pub nothing_read : (rows : Rows) → no_rows ≡ read_so_far rows 0 None
 nothing_read rows =
     fun_ext (λ (row : RowKey). sym (cond-false (is_read 0 None row) (get rows row) None
     (none_read row)))

@@ -1,8 +1,8 @@
 //! A node over a keeper of rows.
 
-ghost use Rattle.std.specs.Prelude.{◌≡◌, ℕ, List, None, Some, Ok, IfOk, IfSome, IfErr, OnOk, OnErr};
+ghost use Rattle.std.specs.Prelude.{◌≡◌, ◌≤◌, ℕ, List, None, Some, Ok, IfOk, IfSome, IfErr, OnOk, OnErr};
 ghost use Rattle.node_calls.specs.Calls.{AbortRefuses, Aborts, ApplyRefuses, Applies, CommitRefuses, Commits, CreateRefuses, Creates, PrepareRefuses, Prepares, RemoveRefuses, Removes};
-ghost use Rattle.node_replica.specs.Checks.{IsNoRefusal};
+ghost use Rattle.node_replica.specs.Checks.{IsNoRefusal, IsNotFault, IsRefusal};
 ghost use Rattle.node_calls.specs.Ends.{Ends, FenceEnds, IsRaised, ListEnds, NodeHasCause, ReadEnds};
 ghost use Rattle.node_calls.specs.Reads.{HasObject, HasRefs, IsSnapshot};
 ghost use Rattle.node_calls.specs.Refusals.{MayAnswer, Abort, Apply, Ask, Commit, Create, Fence, Prepare, Read, Remove};
@@ -101,6 +101,8 @@ impl<K: Keeper + Drop> Shelf<K> {
         ensures known { IfErr result IsNoRefusal }
         ensures cause { NodeHasCause (K.keep_faults self.old.keeper)
             (K.keep_faults self.new.keeper) result }
+        ensures idle { lease ≤ (place_at self.old.replicas.entries repo.now).fence
+            → (result ≡ Ok tt) × (self.new.keeper ≡ self.old.keeper) }
     {
         let replica = find(&self.replicas, repo, &self.unheard);
         if !replica.is_below(lease) {
@@ -128,6 +130,7 @@ impl<K: Keeper + Drop> Node for Shelf<K> {
         ensures err { OnErr result (Stays (place_at self.old.replicas.entries)
             (place_at self.new.replicas.entries)
             (K.rows self.old.keeper) (K.rows self.new.keeper)) }
+        ensures refused { IfErr result (λ e. IsRefusal e → self.new.keeper ≡ self.old.keeper) }
     {
         let replica = find(&self.replicas, repo, &self.unheard);
         replica.may_create(lease)?;
@@ -154,6 +157,7 @@ impl<K: Keeper + Drop> Node for Shelf<K> {
         ensures err { OnErr result (Stays (place_at self.old.replicas.entries)
             (place_at self.new.replicas.entries)
             (K.rows self.old.keeper) (K.rows self.new.keeper)) }
+        ensures refused { IfErr result (λ e. IsRefusal e → self.new.keeper ≡ self.old.keeper) }
     {
         let replica = find(&self.replicas, repo, &self.unheard);
         let batch = replica.rows_fenced(alloc, repo, lease.number())?;
@@ -184,6 +188,7 @@ impl<K: Keeper + Drop> Node for Shelf<K> {
         ensures err { OnErr result (Stays (place_at self.old.replicas.entries)
             (place_at self.new.replicas.entries)
             (K.rows self.old.keeper) (K.rows self.new.keeper)) }
+        ensures refused { IfErr result (λ e. IsRefusal e → self.new.keeper ≡ self.old.keeper) }
     {
         let replica = find(&self.replicas, repo, &self.unheard);
         replica.may_commit(lease, &verdict.hash())?;
@@ -208,6 +213,7 @@ impl<K: Keeper + Drop> Node for Shelf<K> {
         ensures err { OnErr result (Stays (place_at self.old.replicas.entries)
             (place_at self.new.replicas.entries)
             (K.rows self.old.keeper) (K.rows self.new.keeper)) }
+        ensures refused { IfErr result (λ e. IsRefusal e → self.new.keeper ≡ self.old.keeper) }
     {
         let replica = find(&self.replicas, repo, &self.unheard);
         replica.may_abort(lease)?;
@@ -232,6 +238,8 @@ impl<K: Keeper + Drop> Node for Shelf<K> {
         ensures fault { IfErr result (λ e. IsNoRefusal e → Stays (place_at self.old.replicas.entries)
             (place_at self.new.replicas.entries)
             (K.rows self.old.keeper) (K.rows self.new.keeper)) }
+        ensures idle { lease ≤ (place_at self.old.replicas.entries repo.now).fence
+            → IfErr result IsNotFault × (self.new.keeper ≡ self.old.keeper) }
     {
         let replica = find(&self.replicas, repo, &self.unheard);
         let held = replica.holds();
@@ -248,11 +256,13 @@ impl<K: Keeper + Drop> Node for Shelf<K> {
             (place_at self.old.replicas.entries)
             (place_at self.new.replicas.entries) }
         ensures known { IfErr result (MayAnswer Read) }
+        ensures sure { IfErr result IsNotFault }
         ensures cause { NodeHasCause (K.keep_faults self.old.keeper)
             (K.keep_faults self.new.keeper) result }
         ensures same { Stays (place_at self.old.replicas.entries)
             (place_at self.new.replicas.entries)
             (K.rows self.old.keeper) (K.rows self.new.keeper) }
+        ensures keeper { self.new.keeper ≡ self.old.keeper }
     {
         find(&self.replicas, repo, &self.unheard).refs(alloc)
     }
@@ -267,11 +277,13 @@ impl<K: Keeper + Drop> Node for Shelf<K> {
             (place_at self.old.replicas.entries)
             (place_at self.new.replicas.entries) }
         ensures known { IfErr result (MayAnswer Read) }
+        ensures sure { IfErr result IsNotFault }
         ensures cause { NodeHasCause (K.keep_faults self.old.keeper)
             (K.keep_faults self.new.keeper) result }
         ensures same { Stays (place_at self.old.replicas.entries)
             (place_at self.new.replicas.entries)
             (K.rows self.old.keeper) (K.rows self.new.keeper) }
+        ensures keeper { self.new.keeper ≡ self.old.keeper }
     {
         find(&self.replicas, repo, &self.unheard).object(alloc, id)
     }
@@ -281,11 +293,13 @@ impl<K: Keeper + Drop> Node for Shelf<K> {
             (place_at self.old.replicas.entries)
             (place_at self.new.replicas.entries) }
         ensures known { IfErr result (MayAnswer Read) }
+        ensures sure { IfErr result IsNotFault }
         ensures cause { NodeHasCause (K.keep_faults self.old.keeper)
             (K.keep_faults self.new.keeper) result }
         ensures same { Stays (place_at self.old.replicas.entries)
             (place_at self.new.replicas.entries)
             (K.rows self.old.keeper) (K.rows self.new.keeper) }
+        ensures keeper { self.new.keeper ≡ self.old.keeper }
     {
         find(&self.replicas, repo, &self.unheard).snapshot(alloc)
     }
@@ -307,6 +321,7 @@ impl<K: Keeper + Drop> Node for Shelf<K> {
         ensures err { OnErr result (Stays (place_at self.old.replicas.entries)
             (place_at self.new.replicas.entries)
             (K.rows self.old.keeper) (K.rows self.new.keeper)) }
+        ensures refused { IfErr result (λ e. IsRefusal e → self.new.keeper ≡ self.old.keeper) }
     {
         let objects = snapshot.objects.as_slice();
         let replica = find(&self.replicas, repo, &self.unheard);
@@ -335,6 +350,7 @@ impl<K: Keeper + Drop> Node for Shelf<K> {
         ensures err { OnErr result (Stays (place_at self.old.replicas.entries)
             (place_at self.new.replicas.entries)
             (K.rows self.old.keeper) (K.rows self.new.keeper)) }
+        ensures refused { IfErr result (λ e. IsRefusal e → self.new.keeper ≡ self.old.keeper) }
     {
         let replica = find(&self.replicas, repo, &self.unheard);
         replica.admits(lease)?;
@@ -349,11 +365,13 @@ impl<K: Keeper + Drop> Node for Shelf<K> {
             (place_at self.old.replicas.entries)
             (place_at self.new.replicas.entries) }
         ensures known { IfErr result (MayAnswer Ask) }
+        ensures sure { IfErr result IsNotFault }
         ensures cause { NodeHasCause (K.keep_faults self.old.keeper)
             (K.keep_faults self.new.keeper) result }
         ensures same { Stays (place_at self.old.replicas.entries)
             (place_at self.new.replicas.entries)
             (K.rows self.old.keeper) (K.rows self.new.keeper) }
+        ensures keeper { self.new.keeper ≡ self.old.keeper }
     {
         Ok(replicas::held(alloc, &self.replicas)?)
     }
@@ -365,6 +383,7 @@ impl<K: Keeper + Drop> Node for Shelf<K> {
         ensures same { Stays (place_at self.old.replicas.entries)
             (place_at self.new.replicas.entries)
             (K.rows self.old.keeper) (K.rows self.new.keeper) }
+        ensures keeper { self.new.keeper ≡ self.old.keeper }
     {
         Ok(())
     }

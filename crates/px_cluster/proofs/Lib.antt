@@ -1,0 +1,7 @@
+mod Asking
+mod PushRows
+mod JobRows
+mod ClusterRows
+mod DeliveryRows
+mod OneCall
+mod OneRun

@@ -1,0 +1,6 @@
+//! The rules of the cluster: its core, its nodes, and what each event answers and leaves.
+#![tactic(auto)]
+
+mod laws;
+
+pub use laws::{a_list_of_events_has_one_run, an_event_has_one_answer};

@@ -5,3 +5,4 @@ mod ClusterRows
 mod DeliveryRows
 mod OneCall
 mod OneRun
+mod Refusing

@@ -24,3 +24,4 @@ pub mod Deliveries
 pub mod Step
 pub mod OneRun
 pub mod Astray
+pub mod Refused

@@ -3,4 +3,6 @@
 
 mod laws;
 
-pub use laws::{a_list_of_events_has_one_run, an_event_has_one_answer};
+pub use laws::{
+    a_list_of_events_has_one_run, a_refusal_changes_nothing, an_event_has_one_answer,
+};

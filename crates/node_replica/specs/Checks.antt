@@ -23,6 +23,18 @@ IsNoRefusal (Refused r) = ⊥
 IsNoRefusal Fault = Unit {0}
 IsNoRefusal Memory = Unit {0}
 
+-- the error is a refusal
+abbrev pub IsRefusal : NodeError → Type 0
+IsRefusal (Refused r) = Unit {0}
+IsRefusal Fault = ⊥
+IsRefusal Memory = ⊥
+
+-- the error is no fault: a refusal, or want of memory
+abbrev pub IsNotFault : NodeError → Type 0
+IsNotFault (Refused r) = Unit {0}
+IsNotFault Fault = ⊥
+IsNotFault Memory = Unit {0}
+
 -- a reading answers where the repository is held, and is refused where it is not
 abbrev pub Reads : {A : Type 0} → (ReplicaState → A → Type 0) → ReplicaState → Result A NodeError → Type 0
 Reads IsAnswer place (Ok answer) = (place.held ≡ true) × IsAnswer place answer

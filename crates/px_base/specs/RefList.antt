@@ -51,3 +51,7 @@ pub record IsRefList (refs : References) : Type 0 where
   pub apart : (name other : List ℕ) → IsSome (ref_at refs name) → IsSome (ref_at refs other)
       → is_in_conflict name other ≡ false
   pub few : length refs ≤ 32768
+
+-- they are as many as a repository may have
+abbrev pub HasMost : References → Type 0
+HasMost refs = length refs ≡ 32768

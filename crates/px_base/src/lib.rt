@@ -26,7 +26,7 @@ mod words;
 
 pub use failing::FailingCalls;
 pub use hash::{Hash, ObjectId, a_hash_and_its_text_are_one, is_hex_digit};
-pub use ids::TxId;
+pub use ids::{Gen, JobId, RepoId, StorageId, TxId};
 pub use items::{Bytes, Ids, Items};
 pub use kind::Kind;
 pub use lease::Lease;

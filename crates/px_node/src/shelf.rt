@@ -1,8 +1,8 @@
 //! A node over a keeper of rows.
 
-ghost use Rattle.std.specs.Prelude.{◌≡◌, ℕ, List, None, Some, Ok, IsSome, IfOk, IfSome, IfErr, OnOk, OnErr};
+ghost use Rattle.std.specs.Prelude.{◌≡◌, ◌≤◌, ℕ, List, None, Some, Ok, IsSome, IfOk, IfSome, IfErr, OnOk, OnErr};
 ghost use Rattle.node_calls.specs.Calls.{AbortRefuses, Aborts, ApplyRefuses, Applies, CommitRefuses, Commits, CreateRefuses, Creates, PrepareRefuses, Prepares, RemoveRefuses, Removes};
-ghost use Rattle.node_replica.specs.Checks.{IsNoRefusal};
+ghost use Rattle.node_replica.specs.Checks.{IsNoRefusal, IsNotFault, IsRefusal};
 ghost use Rattle.node_calls.specs.Ends.{Ends, FenceEnds, IsRaised, ListEnds, NodeHasCause, ReadEnds};
 ghost use Rattle.node_calls.specs.Reads.{HasObject, HasRefs, IsSnapshot};
 ghost use Rattle.node_calls.specs.Refusals.{MayAnswer, Abort, Apply, Ask, Commit, Create, Fence, Prepare, Read, Remove};
@@ -104,6 +104,8 @@ impl<K: Keeper + Drop> Shelf<K> {
         ensures known { IfErr result IsNoRefusal }
         ensures cause { NodeHasCause (K.keep_faults self.old.keeper)
             (K.keep_faults self.new.keeper) result }
+        ensures idle { lease ≤ (place_at self.old.replicas.entries repo.now).fence
+            → (result ≡ Ok tt) × (self.new.keeper ≡ self.old.keeper) }
     {
         let replica = find(&self.replicas, repo, &self.unheard);
         if !replica.is_below(lease) {
@@ -131,6 +133,7 @@ impl<K: Keeper + Drop> Node for Shelf<K> {
         ensures err { OnErr result (Stays (place_at self.old.replicas.entries)
             (place_at self.new.replicas.entries)
             (K.rows self.old.keeper) (K.rows self.new.keeper)) }
+        ensures refused { IfErr result (λ e. IsRefusal e → self.new.keeper ≡ self.old.keeper) }
     {
         let replica = find(&self.replicas, repo, &self.unheard);
         replica.may_create(lease)?;
@@ -157,6 +160,7 @@ impl<K: Keeper + Drop> Node for Shelf<K> {
         ensures err { OnErr result (Stays (place_at self.old.replicas.entries)
             (place_at self.new.replicas.entries)
             (K.rows self.old.keeper) (K.rows self.new.keeper)) }
+        ensures refused { IfErr result (λ e. IsRefusal e → self.new.keeper ≡ self.old.keeper) }
     {
         let replica = find(&self.replicas, repo, &self.unheard);
         let batch = replica.rows_fenced(alloc, repo, lease.number())?;
@@ -187,6 +191,7 @@ impl<K: Keeper + Drop> Node for Shelf<K> {
         ensures err { OnErr result (Stays (place_at self.old.replicas.entries)
             (place_at self.new.replicas.entries)
             (K.rows self.old.keeper) (K.rows self.new.keeper)) }
+        ensures refused { IfErr result (λ e. IsRefusal e → self.new.keeper ≡ self.old.keeper) }
     {
         let replica = find(&self.replicas, repo, &self.unheard);
         replica.may_commit(lease, &verdict.hash())?;
@@ -211,6 +216,7 @@ impl<K: Keeper + Drop> Node for Shelf<K> {
         ensures err { OnErr result (Stays (place_at self.old.replicas.entries)
             (place_at self.new.replicas.entries)
             (K.rows self.old.keeper) (K.rows self.new.keeper)) }
+        ensures refused { IfErr result (λ e. IsRefusal e → self.new.keeper ≡ self.old.keeper) }
     {
         let replica = find(&self.replicas, repo, &self.unheard);
         replica.may_abort(lease)?;
@@ -235,6 +241,8 @@ impl<K: Keeper + Drop> Node for Shelf<K> {
         ensures fault { IfErr result (λ e. IsNoRefusal e → Stays (place_at self.old.replicas.entries)
             (place_at self.new.replicas.entries)
             (K.rows self.old.keeper) (K.rows self.new.keeper)) }
+        ensures idle { lease ≤ (place_at self.old.replicas.entries repo.now).fence
+            → IfErr result IsNotFault × (self.new.keeper ≡ self.old.keeper) }
     {
         let replica = find(&self.replicas, repo, &self.unheard);
         let held = replica.holds();
@@ -251,11 +259,13 @@ impl<K: Keeper + Drop> Node for Shelf<K> {
             (place_at self.old.replicas.entries)
             (place_at self.new.replicas.entries) }
         ensures known { IfErr result (MayAnswer Read) }
+        ensures sure { IfErr result IsNotFault }
         ensures cause { NodeHasCause (K.keep_faults self.old.keeper)
             (K.keep_faults self.new.keeper) result }
         ensures same { Stays (place_at self.old.replicas.entries)
             (place_at self.new.replicas.entries)
             (K.rows self.old.keeper) (K.rows self.new.keeper) }
+        ensures keeper { self.new.keeper ≡ self.old.keeper }
     {
         find(&self.replicas, repo, &self.unheard).refs(alloc)
     }
@@ -270,11 +280,13 @@ impl<K: Keeper + Drop> Node for Shelf<K> {
             (place_at self.old.replicas.entries)
             (place_at self.new.replicas.entries) }
         ensures known { IfErr result (MayAnswer Read) }
+        ensures sure { IfErr result IsNotFault }
         ensures cause { NodeHasCause (K.keep_faults self.old.keeper)
             (K.keep_faults self.new.keeper) result }
         ensures same { Stays (place_at self.old.replicas.entries)
             (place_at self.new.replicas.entries)
             (K.rows self.old.keeper) (K.rows self.new.keeper) }
+        ensures keeper { self.new.keeper ≡ self.old.keeper }
     {
         find(&self.replicas, repo, &self.unheard).object(alloc, id)
     }
@@ -284,11 +296,13 @@ impl<K: Keeper + Drop> Node for Shelf<K> {
             (place_at self.old.replicas.entries)
             (place_at self.new.replicas.entries) }
         ensures known { IfErr result (MayAnswer Read) }
+        ensures sure { IfErr result IsNotFault }
         ensures cause { NodeHasCause (K.keep_faults self.old.keeper)
             (K.keep_faults self.new.keeper) result }
         ensures same { Stays (place_at self.old.replicas.entries)
             (place_at self.new.replicas.entries)
             (K.rows self.old.keeper) (K.rows self.new.keeper) }
+        ensures keeper { self.new.keeper ≡ self.old.keeper }
     {
         find(&self.replicas, repo, &self.unheard).snapshot(alloc)
     }
@@ -310,6 +324,7 @@ impl<K: Keeper + Drop> Node for Shelf<K> {
         ensures err { OnErr result (Stays (place_at self.old.replicas.entries)
             (place_at self.new.replicas.entries)
             (K.rows self.old.keeper) (K.rows self.new.keeper)) }
+        ensures refused { IfErr result (λ e. IsRefusal e → self.new.keeper ≡ self.old.keeper) }
     {
         let objects = snapshot.objects.as_slice();
         let replica = find(&self.replicas, repo, &self.unheard);
@@ -338,6 +353,7 @@ impl<K: Keeper + Drop> Node for Shelf<K> {
         ensures err { OnErr result (Stays (place_at self.old.replicas.entries)
             (place_at self.new.replicas.entries)
             (K.rows self.old.keeper) (K.rows self.new.keeper)) }
+        ensures refused { IfErr result (λ e. IsRefusal e → self.new.keeper ≡ self.old.keeper) }
     {
         let replica = find(&self.replicas, repo, &self.unheard);
         replica.admits(lease)?;
@@ -352,11 +368,13 @@ impl<K: Keeper + Drop> Node for Shelf<K> {
             (place_at self.old.replicas.entries)
             (place_at self.new.replicas.entries) }
         ensures known { IfErr result (MayAnswer Ask) }
+        ensures sure { IfErr result IsNotFault }
         ensures cause { NodeHasCause (K.keep_faults self.old.keeper)
             (K.keep_faults self.new.keeper) result }
         ensures same { Stays (place_at self.old.replicas.entries)
             (place_at self.new.replicas.entries)
             (K.rows self.old.keeper) (K.rows self.new.keeper) }
+        ensures keeper { self.new.keeper ≡ self.old.keeper }
     {
         Ok(replicas::held(alloc, &self.replicas)?)
     }
@@ -368,6 +386,7 @@ impl<K: Keeper + Drop> Node for Shelf<K> {
         ensures same { Stays (place_at self.old.replicas.entries)
             (place_at self.new.replicas.entries)
             (K.rows self.old.keeper) (K.rows self.new.keeper) }
+        ensures keeper { self.new.keeper ≡ self.old.keeper }
     {
         Ok(())
     }

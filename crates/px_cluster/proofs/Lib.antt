@@ -1,0 +1,8 @@
+mod Asking
+mod PushRows
+mod JobRows
+mod ClusterRows
+mod DeliveryRows
+mod OneCall
+mod OneRun
+mod Refusing

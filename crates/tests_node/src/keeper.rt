@@ -4,6 +4,7 @@ use crate::answers::add;
 use crate::calls::{compare, parts};
 use px_base::Bytes;
 use px_keeper::{ArmedKeeper, Batch, KeepFault, Keeper, MemKeeper, SureKeeper};
+use px_node::Shelf;
 use std::alloc::{AllocError, Global};
 use std::test::Fail;
 
@@ -222,4 +223,23 @@ const ARMED: &str = "\
 #[test]
 fn an_armed_keeper_fails_at_its_next_commit_alone(rt: HostRuntime) -> Result<(), Fail> {
     play(rt.alloc(), &mut ArmedKeeper::new(rt.alloc()), ARMED)
+}
+
+// The fault comes at the first effect, which is then as if it had not been asked for.
+const OVER_ARMED: &str = "\
+    list ->
+    fence x.git 0 -> last -
+    create x.git 1 -> fault
+    list ->
+    create x.git 1 -> ok
+    list -> x.git";
+
+#[test]
+fn a_node_is_opened_over_an_armed_keeper_and_faults_once(rt: HostRuntime) -> Result<(), Fail> {
+    let mut keeper = ArmedKeeper::new(rt.alloc());
+    keeper.arm();
+    match Shelf::open(rt.alloc(), keeper) {
+        Ok(mut node) => crate::calls::play(rt.alloc(), &mut node, OVER_ARMED),
+        Err(_) => Err(Fail::new("the node was not opened")),
+    }
 }

@@ -8,6 +8,8 @@ mod calls;
 #[cfg(test)]
 mod faulty;
 #[cfg(test)]
+mod fields;
+#[cfg(test)]
 mod keeper;
 #[cfg(test)]
 mod opening;

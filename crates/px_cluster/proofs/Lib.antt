@@ -6,3 +6,5 @@ mod DeliveryRows
 mod OneCall
 mod OneRun
 mod Refusing
+mod LaterBooks
+mod Growing

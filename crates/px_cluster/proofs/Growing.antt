@@ -1,49 +1,37 @@
 -- A repository stays on record, and newest generations, leases and numbers never fall.
-use Rattle.std.proofs.Common.{◌≡◌, ℕ, ◌≤◌, zero, suc, List, [], ◌∷◌, length, true, false, unwrap_or, Option, None, Some, refl, sym, ◌∙◌, subst, inl, inr, arith, slice_get}
+use Rattle.std.proofs.Common.{◌≡◌, ℕ, ◌≤◌, zero, suc, List, [], ◌∷◌, length, true, false, unwrap_or, Option, None, Some, refl, sym, ◌∙◌, subst, arith, slice_get}
 use Rattle.px_base.specs.declared.hash.Hash.{Hash}
 use Rattle.px_base.specs.declared.ids.TxId.{TxId}
 use Rattle.px_base.specs.declared.phase.Phase.{Phase}
 use Rattle.px_ops.specs.declared.job.Job.{Job}
 use Rattle.px_ops.specs.declared.job.JobKind.{JobKind}
 use Rattle.px_ops.specs.declared.job.JobKind.TheVariants.{Update, Delete}
-use Rattle.px_ops.specs.declared.node_refusal.NodeRefusal.{NodeRefusal}
 use Rattle.px_ops.specs.declared.op.Op.{Op}
 use Rattle.px_ops.specs.declared.op.Op.TheVariants as op
-use Rattle.px_ops.specs.declared.refusal.Refusal.{Refusal}
-use Rattle.node_calls.specs.ReplicaState.{ReplicaState}
 use Rattle.txmanager.specs.VoterCalls.{after_cast}
 use Rattle.txmanager.specs.Voting.{Voting}
-use Rattle.px_cluster.specs.Acknowledged.{event_refusal}
 use Rattle.px_cluster.specs.Book.{Repository}
 use Rattle.px_cluster.specs.Casts.{booked_by, cast_on, with_cast_booked}
-use Rattle.px_cluster.specs.Cluster.{Cluster}
 use Rattle.px_cluster.specs.Core.{Core, OpenPush, job_at, push_of, repository, voting, with_book_changed, with_repository_by}
 use Rattle.px_cluster.specs.Creating.{assigned_for, created_on, found, unmade, with_created}
-use Rattle.px_cluster.specs.Deliveries.{Delivers, Fences, ReadsRefs, TakesSnapshot}
-use Rattle.px_cluster.specs.Effects.{Effect, Location, effect_of, location_of, source_of}
-use Rattle.px_cluster.specs.Events.{Answer}
-use Rattle.px_cluster.specs.Events as event
-use Rattle.px_cluster.specs.Growth.{Grows, IsLater, IsOnRecord, RunGrows, StepGrows}
+use Rattle.px_cluster.specs.Growth.{Grows, IsLater}
 use Rattle.px_cluster.specs.Jobs.{ended_job, with_end_booked, without_job}
-use Rattle.px_cluster.specs.Ledger.{Purpose, answered}
-use Rattle.px_cluster.specs.Ops.{left_by, unless_refused}
+use Rattle.px_cluster.specs.Ops.{left_by}
 use Rattle.px_cluster.specs.Pushes.{beginning, begun_at, drawn_for_members}
-use Rattle.px_cluster.specs.Step.{IsAsked, keeps_nothing, settling, tells_done}
-use Rattle.px_cluster.specs.Events.{Voted}
 use Rattle.px_cluster.specs.Taking.{Drop, Next, PassOver, Take, Taking, dequeued, dequeued_by, next_job, taken_in}
 use Rattle.px_cluster.proofs.LaterBooks.{AreLater, MakesLater, are_changed, are_more, are_same, as_late, by_admission, by_cast, by_taking, drawn_book, is_set, raised_book}
 
 -- ---- cores
 
 -- by the lists of repositories, and the last numbers
-abbrev GrowsSo : Core → Core → Type 0
+abbrev pub GrowsSo : Core → Core → Type 0
 GrowsSo old new = AreLater old.repositories new.repositories × (old.last_tx ≤ new.last_tx)
     × (old.last_job ≤ new.last_job)
 
 least : (n : ℕ) → n ≤ n
 least n = omega arith
 
-stays : (core : Core) → GrowsSo core core
+pub stays : (core : Core) → GrowsSo core core
 stays core = (are_same core.repositories, least core.last_tx, least core.last_job)
 
 -- what stands at the place of a repository is that one
@@ -138,7 +126,7 @@ ended_so core true (Some job) = by_kind job.kind
     by_kind Delete = stays core
 ended_so core false (Some job) = stays core
 
-left : (core : Core) (asked : Op) → GrowsSo core (left_by core asked)
+pub left : (core : Core) (asked : Op) → GrowsSo core (left_by core asked)
 left core (op.Admit virt name) = (
   are_changed _ (by_admission virt (length core.storages)) core.repositories,
   least core.last_tx,
@@ -194,7 +182,7 @@ on_record (first ∷ old) (now ∷ new) are zero book is =
 on_record (first ∷ old) (now ∷ new) are (suc repo) book is =
     on_record old new are.1 repo book is
 
-grows : (old new : Core) → GrowsSo old new → Grows old new
+pub grows : (old new : Core) → GrowsSo old new → Grows old new
 grows old new so = record {
   books = λ repo book is.
       let on = on_record old.repositories new.repositories so.0 repo book is in
@@ -202,107 +190,3 @@ grows old new so = record {
   last_tx = so.1;
   last_job = so.2;
 }
-
--- ---- events
-
-same_core : (old new then_ : Cluster) → new ≡ then_ → GrowsSo old.core then_.core
-    → Grows old.core new.core
-same_core old new then_ is so =
-    subst (λ (c : Cluster). Grows old.core c.core) (sym is) (grows old.core then_.core so)
-
-asked_so : (old : Cluster) (refusal : Option Refusal) (done : Cluster)
-    → GrowsSo old.core done.core → GrowsSo old.core (unless_refused refusal old done).core
-asked_so old None done so = so
-asked_so old (Some why) done so = stays old.core
-
-asking : (old new : Cluster) (asked : Op) (answer : Answer) → IsAsked old asked answer new
-    → Grows old.core new.core
-asking old new asked answer is = same_core old new _ is.leads
-    (asked_so old (event_refusal old asked) _ (left old.core asked))
-
-module _ {A : Type 0} (refuses : ReplicaState → NodeRefusal → Type 0)
-    (does : ReplicaState → A → ReplicaState → Type 0) (tells : A → Answer)
-    (keeps : Purpose → Purpose) where
-  delivering : (old new : Cluster) (effect : Option Effect) (answer : Answer)
-      → Delivers refuses does tells keeps old effect answer new → Grows old.core new.core
-  delivering old new None answer is = same_core old new old is.1 (stays old.core)
-  delivering old new (Some effect) answer (inl is) = same_core old new old is.same (stays old.core)
-  delivering old new (Some effect) answer (inr is) =
-      same_core old new _ is.changes (stays old.core)
-
-fencing : (old new : Cluster) (effect : Option Effect) (answer : Answer)
-    → Fences old effect answer new → Grows old.core new.core
-fencing old new None answer is = same_core old new old is.1 (stays old.core)
-fencing old new (Some effect) answer is = same_core old new _ is.1 (stays old.core)
-
-reading : (old new : Cluster) (location : Option Location) (answer : Answer)
-    → ReadsRefs old location answer new → Grows old.core new.core
-reading old new None answer is = same_core old new old is.1 (stays old.core)
-reading old new (Some location) answer is = same_core old new old is.1 (stays old.core)
-
-taking_snapshot : (old new : Cluster) (source : Option Location) (effect : Option Effect)
-    (answer : Answer) → TakesSnapshot old source effect answer new → Grows old.core new.core
-taking_snapshot old new source None answer is = same_core old new old is.1 (stays old.core)
-taking_snapshot old new None (Some effect) answer is = same_core old new old is.1 (stays old.core)
-taking_snapshot old new (Some source) (Some effect) answer (inl is) =
-    same_core old new old is.same (stays old.core)
-taking_snapshot old new (Some source) (Some effect) answer (inr is) =
-    same_core old new _ is.kept (stays old.core)
-
-pub step_grows : StepGrows
-step_grows old new (event.Asks asked) answer is = asking old new asked answer is
-step_grows old new (event.Settled repo storage lease) answer is =
-    asking old new (settling old repo storage lease) answer is
-step_grows old new (event.Make storage repo lease) answer is =
-    delivering _ _ tells_done answered old new
-    (effect_of old (event.Make storage repo lease)) answer is
-step_grows old new (event.Prepare tx storage push) answer is =
-    delivering _ _ Voted keeps_nothing old new
-    (effect_of old (event.Prepare tx storage push)) answer is
-step_grows old new (event.Commit tx storage) answer is =
-    delivering _ _ Voted answered old new (effect_of old (event.Commit tx storage)) answer is
-step_grows old new (event.Abort tx storage) answer is =
-    delivering _ _ tells_done keeps_nothing old new
-    (effect_of old (event.Abort tx storage)) answer is
-step_grows old new (event.Refs storage repo) answer is =
-    reading old new (location_of old repo storage) answer is
-step_grows old new (event.TakeSnapshot job lease) answer is =
-    let effect = effect_of old (event.TakeSnapshot job lease) in
-    taking_snapshot old new (source_of old job effect) effect answer is
-step_grows old new (event.Apply job lease) answer is =
-    delivering _ _ tells_done answered old new (effect_of old (event.Apply job lease)) answer is
-step_grows old new (event.Remove job lease) answer is =
-    delivering _ _ tells_done answered old new (effect_of old (event.Remove job lease)) answer is
-step_grows old new (event.Fence storage repo lease) answer is =
-    fencing old new (effect_of old (event.Fence storage repo lease)) answer is
-step_grows old new event.Restart answer is = same_core old new _ is.leads (stays old.core)
-
--- ---- runs
-
-still_on_record : (old then_ new : Core) → Grows old then_ → Grows then_ new → (repo : ℕ)
-    (book : Repository) → repository old repo ≡ Some book → IsOnRecord new repo book
-still_on_record old then_ new first second repo book is =
-    let on = first.books repo book is in
-    let later = second.books repo on.book on.there in
-    record { book = later.book; there = later.there; later = both on.later later.later }
-  where
-    both : {a b c : Repository} → IsLater a b → IsLater b c → IsLater a c
-    both x y = record {
-      virt = y.virt ∙ x.virt;
-      path = y.path ∙ x.path;
-      newest = omega (arith, x.newest, y.newest);
-      last = omega (arith, x.last, y.last);
-    }
-
-pub run_grows : RunGrows
-run_grows old new [] [] is = same_core old new old is (stays old.core)
-run_grows old new [] (answer ∷ answers) is = absurd is
-run_grows old new (happened ∷ events) [] is = absurd is
-run_grows old new (happened ∷ events) (answer ∷ answers) is =
-    let first = step_grows old is.0 happened answer is.1 in
-    let rest = run_grows is.0 new events answers is.2 in
-    record {
-      books = still_on_record old.core is.0.core new.core first rest;
-      last_tx = omega (arith, first.last_tx, rest.last_tx);
-      last_job = omega (arith, first.last_job, rest.last_job);
-    }

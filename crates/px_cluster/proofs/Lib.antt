@@ -8,3 +8,4 @@ mod OneRun
 mod Refusing
 mod LaterBooks
 mod Growing
+mod GrowingRuns

@@ -1,4 +1,4 @@
-use Rattle.px_cluster.proofs.Growing.{run_grows, step_grows}
+use Rattle.px_cluster.proofs.GrowingRuns.{run_grows, step_grows}
 use Rattle.px_cluster.proofs.laws.newest_never_falls.Goals as goal
 
 pub returns : goal.returns

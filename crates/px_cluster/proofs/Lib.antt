@@ -6,3 +6,6 @@ mod DeliveryRows
 mod OneCall
 mod OneRun
 mod Refusing
+mod LaterBooks
+mod Growing
+mod GrowingRuns

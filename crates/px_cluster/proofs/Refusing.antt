@@ -15,7 +15,7 @@ use Rattle.txmanager.specs.Voting as on
 use Rattle.txmanager.specs.declared.refusal.TxRefusal.{TxRefusal}
 use Rattle.voters.specs.declared.outcome.Outcome.{Outcome}
 use Rattle.voters.specs.declared.voter_result.VoterResult.{VoterResult}
-use Rattle.px_cluster.specs.Acknowledged.{done_in, event_refusal, op_next, op_reply}
+use Rattle.px_cluster.specs.Acknowledged.{done_in, event_refusal, op_reply}
 use Rattle.px_cluster.specs.Book.{Repository}
 use Rattle.px_cluster.specs.Cluster.{Cluster}
 use Rattle.px_cluster.specs.Core.{Core, OpenPush, job_at, push_of, repository, voting}

@@ -25,3 +25,4 @@ pub mod Step
 pub mod OneRun
 pub mod Astray
 pub mod Refused
+pub mod Growth

@@ -1,6 +1,7 @@
 //! What is true of every event and every run of the rules. A law is a function with nothing in it: what
 //! it ensures is proved for all values.
 
+ghost use Rattle.px_cluster.specs.Growth.{RunGrows, StepGrows};
 ghost use Rattle.px_cluster.specs.OneRun.{RunIsOne, StepIsOne};
 ghost use Rattle.px_cluster.specs.Refused.{RefusalChangesNothing};
 
@@ -18,4 +19,12 @@ pub fn a_list_of_events_has_one_run()
 /// were, a fence aside: a node raises it also where it refuses it.
 pub fn a_refusal_changes_nothing()
     ensures { RefusalChangesNothing }
+{}
+
+/// A repository stays on record under its number, with its virtual storage and path, and its newest
+/// generation and its last lease never fall; nor do the last numbers of transactions and of jobs. This
+/// holds at each event, whatever is answered, and over every list of events, restarts among them.
+pub fn newest_never_falls()
+    ensures step { StepGrows }
+    ensures run { RunGrows }
 {}

@@ -5,4 +5,5 @@ mod laws;
 
 pub use laws::{
     a_list_of_events_has_one_run, a_refusal_changes_nothing, an_event_has_one_answer,
+    newest_never_falls,
 };

@@ -1,5 +1,5 @@
 -- Rows that are all good stand for a node.
-use Rattle.std.proofs.Common.{◌≡◌, ◌<◌, ℕ, List, cond, Option, Some, refl, sym, subst}
+use Rattle.std.proofs.Common.{◌≡◌, ℕ, List, cond, Option, Some, refl, sym, subst}
 use Rattle.std.proofs.lemmas.Bool.{cond-false, cond-true}
 use Rattle.px_base.specs.RefList.{is_name}
 use Rattle.refstore.proofs.Names.{names_laws, other_name}

@@ -1,11 +1,10 @@
 -- The start of the rows and their end; and a table that no node has.
-use Rattle.std.proofs.Common.{◌≡◌, ◌≢◌, ◌<◌, ℕ, List, false, Option, None, refl, sym, ap, ◌∙◌, subst, inr, arith}
+use Rattle.std.proofs.Common.{◌≡◌, ◌≢◌, ℕ, List, false, Option, None, sym, ap, subst, inr, arith}
 use Rattle.std.specs.FinMap.{get, get-empty}
 use Rattle.std.proofs.lemmas.Bool.{cond-true, lt-ltb}
 use Rattle.px_keeper.specs.Keeper.{IsNext}
 use Rattle.px_keeper.specs.Reading.{all_rows, no_rows}
 use Rattle.px_keeper.specs.Row.{Rows, row_cmp, row_key}
-use Rattle.px_keeper.specs.declared.row_key.RowKey.{RowKey}
 use Rattle.node_rows.proofs.Alike.{rows_of_nothing}
 use Rattle.node_rows.proofs.LawfulReplicas.{IsLawfulReplica-said}
 use Rattle.node_rows.proofs.ReadRows.{first_bad}

@@ -1,5 +1,5 @@
 -- The rows that stand for a node.
-use Rattle.std.specs.Prelude.{◌≡◌, ◌<◌, ◌&&◌, ◌++◌, ◌==◌, ℕ, Bool, true, false, not, List, [], ◌∷◌, if◌then◌else◌, is_none, IfSome, MatchOption, Option, None, Some}
+use Rattle.std.specs.Prelude.{◌≡◌, ◌<◌, ◌&&◌, ◌++◌, ◌==◌, ℕ, Bool, false, not, List, [], ◌∷◌, if◌then◌else◌, is_none, IfSome, MatchOption, Option, None, Some}
 use Rattle.std.specs.FinMap.{get}
 use Rattle.std.specs.Option.{option_map}
 use Rattle.px_base.specs.Object.{GitObject}

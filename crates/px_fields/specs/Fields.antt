@@ -1,5 +1,5 @@
 -- Values as bytes, as rows and frames have them. A number has its highest byte first.
-use Rattle.std.specs.Prelude.{◌<◌, ◌-◌, ◌^◌, ◌++◌, ◌∷◌, [], ℕ, Bool, true, false, List, length, Option, None, Some}
+use Rattle.std.specs.Prelude.{◌<◌, ◌-◌, ◌^◌, ◌++◌, ◌∷◌, ℕ, Bool, true, false, List, length, Option, None, Some}
 use Rattle.std.specs.Int.{to_be_bytes, w16, w32, w64}
 use Rattle.px_base.specs.declared.kind.Kind.{Kind}
 use Rattle.px_base.specs.declared.kind.Kind.TheVariants.{Commit, Tree, Blob, Tag}

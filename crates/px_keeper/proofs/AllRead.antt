@@ -1,11 +1,11 @@
 -- Rows that are all good can be read to their end, where what has been read can always take over one
 -- good row more.
-use Rattle.std.proofs.Common.{◌≡◌, ◌==◌, ◌<◌, ◌≤◌, ℕ, List, [], ◌∷◌, true, false, cond, Bool, Option, Some, None, refl, sym, ap, ◌∙◌, subst, ◌⊎◌, ⊎_elim, inr, arith}
+use Rattle.std.proofs.Common.{◌≡◌, ◌==◌, ◌<◌, ◌≤◌, ℕ, List, [], ◌∷◌, true, false, cond, Bool, Option, Some, None, refl, sym, ◌∙◌, subst, ◌⊎◌, ⊎_elim, inr, arith}
 use Rattle.std.proofs.Math.Path.{fun_ext}
 use Rattle.std.specs.FinMap.{entries, entries_sorted, get, get-entries}
 use Rattle.std.specs.FinMap.Entries.{find}
 use Rattle.std.specs.Prelude.{nat_lt}
-use Rattle.std.proofs.lemmas.Bool.{and_right, cases_Bool, eqb-false, eqb-true, le-ltb, lt-ltb, ltb-false, ltb-true, or_from, or_left}
+use Rattle.std.proofs.lemmas.Bool.{and_right, eqb-false, eqb-true, le-ltb, lt-ltb, ltb-false, ltb-true, or_from, or_left}
 use Rattle.px_keeper.proofs.InOrder.{Entries, Left, here, is_next, left_before, left_then, read_before, read_table, table_of, tables_up}
 use Rattle.px_keeper.proofs.ReadTables.{all_had, nothing_read, none_read}
 use Rattle.px_keeper.specs.FirstBad.{AllGood}

@@ -4,7 +4,7 @@ use Rattle.std.proofs.Math.Path.{fun_ext}
 use Rattle.std.specs.Option.{IfSome}
 use Rattle.std.specs.Prelude.{nat_lt}
 use Rattle.std.specs.FinMap.{get}
-use Rattle.std.proofs.lemmas.Bool.{and_right, cases_Bool, cond-false, cond-true, eqb-false, eqb-true, false≢true, le-ltb, lt-ltb, ltb-false, ltb-true, or_from, or_left}
+use Rattle.std.proofs.lemmas.Bool.{and_right, cond-false, cond-true, eqb-false, eqb-true, false≢true, le-ltb, lt-ltb, ltb-false, ltb-true, or_from, or_left}
 use Rattle.px_keeper.proofs.ReadRows.{above_from_not, found_where}
 use Rattle.px_keeper.specs.FirstBad.{AllGood, FirstBad}
 use Rattle.px_keeper.specs.Keeper.{IsAbove, IsNext, ScanGives}

@@ -1,6 +1,6 @@
 //! A keeper in memory whose next commit can be made to fail.
 
-ghost use Rattle.std.specs.Prelude.{◌≡◌, ◌≤◌, false, true, Some};
+ghost use Rattle.std.specs.Prelude.{◌≡◌, false, true, Some};
 ghost use Rattle.std.specs.FinMap.{empty};
 
 use crate::{Batch, KeepFault, Keeper, SureKeeper};

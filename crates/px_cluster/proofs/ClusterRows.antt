@@ -139,3 +139,15 @@ nothing_to_remove = refl
 good_end_waits : op_reply worked (done 1 4) ≡ refused refusal.NotAcked
 unfolding decision committed_hash is_lost
 good_end_waits = refl
+
+-- two jobs were taken for b's replica, and lease 7 was drawn for the second
+abbrev second_job : Cluster
+second_job = record (answered_so made 1 7 (Updating 2 0 0 None false)) {
+  worked = λ job. Some (record { repo = 0; number = 1 });
+}
+
+of_the_job_that_drew_it : effect_of second_job (TakeSnapshot 2 7) ≡ Some (effect_for 1 7)
+of_the_job_that_drew_it = refl
+
+not_of_the_job_before : effect_of second_job (TakeSnapshot 1 7) ≡ None
+not_of_the_job_before = refl

@@ -27,15 +27,15 @@ abbrev pub Ascends : References → Type 0
 Ascends refs = IsStrictlySortedBy name_cmp (keys_of refs)
 
 -- where neither of two is, the first is not, and the second is not
-or_first : (a b : Bool) → (a || b) ≡ false → a ≡ false
+pub or_first : (a b : Bool) → (a || b) ≡ false → a ≡ false
 or_first false b e = refl
 or_first true b e = e
 
-or_second : (a b : Bool) → (a || b) ≡ false → b ≡ false
+pub or_second : (a b : Bool) → (a || b) ≡ false → b ≡ false
 or_second false b e = e
 or_second true b e = absurd (cc)
 
-or_both : (a b : Bool) → a ≡ false → b ≡ false → (a || b) ≡ false
+pub or_both : (a b : Bool) → a ≡ false → b ≡ false → (a || b) ≡ false
 or_both a b f g = rw (f, g) refl
 
 -- a choice made again is made alike, and two that exclude each other may change places
@@ -43,7 +43,7 @@ cond_again : (b : Bool) (x y z : Option Hash) → cond b x z ≡ cond b x (cond 
 cond_again true x y z = refl
 cond_again false x y z = refl
 
-cond_swap : (b d : Bool) (x y z : Option Hash) → (b ≡ true → d ≡ true → ⊥)
+pub cond_swap : (b d : Bool) (x y z : Option Hash) → (b ≡ true → d ≡ true → ⊥)
     → cond b x (cond d y z) ≡ cond d y (cond b x z)
 cond_swap true true x y z apart = absurd (apart refl refl)
 cond_swap true false x y z apart = refl
@@ -74,7 +74,7 @@ module _ (name : List ℕ) (id : Hash) where
   all_above least (q ∷ names) below all =
       (names_total.trans name least q below all.0, all_above least names below all.1)
 
-  ascends_set : (refs : References) → Ascends refs → Ascends (insert_entry name_cmp refs name id)
+  pub ascends_set : (refs : References) → Ascends refs → Ascends (insert_entry name_cmp refs name id)
   unfolding IsStrictlySortedBy
   ascends_set [] ascends = (tt, tt)
   ascends_set (ref ∷ refs) ascends = at (ascends_set refs ascends.1) (name_cmp name ref.0) refl
@@ -135,7 +135,7 @@ module _ (name : List ℕ) (id : Hash) where
       at rest true = all.1
       at rest false = (all.0, rest)
 
-  ascends_gone : (refs : References) → Ascends refs
+  pub ascends_gone : (refs : References) → Ascends refs
       → Ascends (remove_entry (is_at (name_cmp name)) refs)
   unfolding IsStrictlySortedBy
   ascends_gone [] ascends = tt
@@ -147,7 +147,7 @@ module _ (name : List ℕ) (id : Hash) where
       at rest true = ascends.1
       at rest false = (all_gone (λ (q : List ℕ). name_cmp ref.0 q ≡ Less) refs ascends.0, rest)
 
-  ref_at-gone : (refs : References) → Ascends refs → (q : List ℕ)
+  pub ref_at-gone : (refs : References) → Ascends refs → (q : List ℕ)
       → ref_at (remove_entry (is_at (name_cmp name)) refs) q ≡ cond (is_name name q) None (ref_at refs q)
   ref_at-gone refs ascends q =
       lookup-remove_entry names_laws (is_at (name_cmp name))
@@ -156,7 +156,7 @@ module _ (name : List ℕ) (id : Hash) where
 
 -- ---- an update is done, and a list of them
 
-ascends-updated : (refs : References) (update : Update) → Ascends refs → Ascends (updated refs update)
+pub ascends-updated : (refs : References) (update : Update) → Ascends refs → Ascends (updated refs update)
 ascends-updated refs update ascends = at (is_zero update.new)
   where
     at : (b : Bool) → Ascends (cond b (remove_entry (is_at (name_cmp update.name)) refs)
@@ -256,22 +256,22 @@ after_first refs update updates ascends apart =
     (names_laws.refl update.name)
 
 -- where no update is at fault, none names what stood before
-none_first : (a b : Option RefRefusal) → option_or a b ≡ None → a ≡ None
+pub none_first : (a b : Option RefRefusal) → option_or a b ≡ None → a ≡ None
 none_first None b is = refl
 none_first (Some e) b is = absurd (cc)
 
-none_second : (a b : Option RefRefusal) → option_or a b ≡ None → b ≡ None
+pub none_second : (a b : Option RefRefusal) → option_or a b ≡ None → b ≡ None
 none_second None b is = is
 none_second (Some e) b is = absurd (cc)
 
-not_twice : (void twice same : Bool) (name : List ℕ) (have : Hash)
+pub not_twice : (void twice same : Bool) (name : List ℕ) (have : Hash)
     → cond void (Some (Void name)) (cond twice (Some (Twice name))
     (cond same None (Some (Stale name have)))) ≡ None → twice ≡ false
 not_twice true twice same name have is = absurd (cc)
 not_twice false true same name have is = absurd (cc)
 not_twice false false same name have is = refl
 
-apart_from_before : (refs : References) (before : List (List ℕ)) (updates : List Update) (q : List ℕ)
+pub apart_from_before : (refs : References) (before : List (List ℕ)) (updates : List Update) (q : List ℕ)
     → first_fault refs before updates ≡ None → is_among q before ≡ true
     → is_among q (names_of updates) ≡ false
 apart_from_before refs before [] q none among = refl

@@ -5,6 +5,7 @@ use Rattle.std.specs.List.{AllByRecursion}
 use Rattle.std.specs.List.Sorted.{IsStrictlySortedBy}
 use Rattle.std.specs.Map.{keys_of}
 use Rattle.std.specs.Option.{IsSome, is_some, option_map, option_or}
+use Rattle.std.specs.Prelude.{nat_lt}
 use Rattle.std.specs.declared.cmp.Ordering.TheVariants.{Less}
 use Rattle.std.proofs.lemmas.List.{take_more}
 use Rattle.px_base.specs.Hash.{is_zero}
@@ -12,14 +13,14 @@ use Rattle.px_base.specs.RefList.{References, IsRefList, is_in_conflict, is_name
 use Rattle.px_base.specs.RefName.{IsRefName}
 use Rattle.px_base.specs.declared.hash.Hash.{Hash}
 use Rattle.px_base.specs.declared.push.Update.{Update}
-use Rattle.refstore.proofs.After.{Ascends, Sets, Stands, after_cases}
+use Rattle.refstore.proofs.After.{Ascends, Sets, Stands, after_cases, none_first, none_second}
 use Rattle.refstore.proofs.Least.{among_from_there, none_found}
 use Rattle.refstore.proofs.Names.{names_laws}
 use Rattle.refstore.proofs.RefMaps.{insert_entry-last}
 use Rattle.refstore.specs.RefMap.{IsRefMap}
 use Rattle.refstore.specs.declared.prepared.RefRefusal.{RefRefusal}
-use Rattle.refstore.specs.declared.prepared.RefRefusal.TheVariants.{Conflict}
-use Rattle.refstore.specs.Updates.{after, first_conflict, least_conflict, update_conflict}
+use Rattle.refstore.specs.declared.prepared.RefRefusal.TheVariants.{Conflict, TooManyRefs}
+use Rattle.refstore.specs.Updates.{Fits, after, first_conflict, first_fault, least_conflict, too_many, update_conflict}
 
 -- ---- the front of a list
 
@@ -35,7 +36,7 @@ has_front (ref ∷ front) rest q id has = at (is_name q ref.0) has (has_front fr
     at true is later = is
     at false is later = later is
 
-some_of : (o : Option Hash) → IsSome o → (id : Hash) × (o ≡ Some id)
+pub some_of : (o : Option Hash) → IsSome o → (id : Hash) × (o ≡ Some id)
 some_of None there = absurd (cc)
 some_of (Some id) there = (id, refl)
 
@@ -185,3 +186,23 @@ module _ (refs : References) (updates : List Update) (before : IsRefList refs) w
       apart = apart;
       few = few;
     }
+
+-- what updates that may be done leave is such as a repository may have
+many_not : (b : Bool) → cond b (Some TooManyRefs) None ≡ None → b ≡ false
+many_not true e = absurd (cc)
+many_not false e = refl
+
+within_limit : (n : ℕ) → nat_lt 32768 n ≡ false → n ≤ 32768
+within_limit n e = grind (arith, e)
+
+pub IsRefList-fits : (refs : References) (updates : List Update) → IsRefList refs
+    → Fits updates refs → IsRefMap (after refs updates) → IsRefList (after refs updates)
+IsRefList-fits refs [] list fits map = list
+IsRefList-fits refs (update ∷ updates) list fits map =
+    let done = after refs (update ∷ updates) in
+    let later = none_second (first_fault refs [] (update ∷ updates))
+    (option_or (first_conflict done (update ∷ updates)) (too_many done)) fits in
+    IsRefList-after refs (update ∷ updates) list map
+    (none_first (first_conflict done (update ∷ updates)) (too_many done) later)
+    (within_limit (length done) (many_not (nat_lt 32768 (length done))
+    (none_second (first_conflict done (update ∷ updates)) (too_many done) later)))

@@ -8,8 +8,8 @@ ghost use Rattle.refstore.specs.Updates.{first_conflict, first_fault, is_among, 
 ghost use Rattle.refstore.specs.Named.{Named};
 
 use crate::conflict::least_conflict;
+use crate::planned::Planned;
 use crate::prepared::RefRefusal;
-use crate::ref_map::RefMap;
 use crate::refs::Refs;
 use px_base::{Hash, RefName, Update};
 use std::alloc::{AllocError, Global};
@@ -69,7 +69,7 @@ fn check_update<'a>(
 }
 
 /// Whether no name of the updates that is in the map is in conflict with another one there.
-pub fn check_conflicts(alloc: Global, map: &RefMap, updates: &[Update]) -> Result<(), RefRefusal>
+pub fn check_conflicts(alloc: Global, map: &Planned, updates: &[Update]) -> Result<(), RefRefusal>
     requires { IsRefMap map.now }
     ensures accepted { OnOk result (first_conflict map.now updates.now ≡ None) }
     ensures refused { IfErr result (λ e. (e ≡ RefRefusal.Memory)
@@ -82,13 +82,13 @@ pub fn check_conflicts(alloc: Global, map: &RefMap, updates: &[Update]) -> Resul
 }
 
 // Whether the name of an update, if it is in the map, is in conflict with none there.
-fn check_conflict(alloc: Global, map: &RefMap, update: &Update) -> Result<(), RefRefusal>
+fn check_conflict(alloc: Global, map: &Planned, update: &Update) -> Result<(), RefRefusal>
     requires { IsRefMap map.now }
     ensures accepted { OnOk result (update_conflict map.now update.now ≡ None) }
     ensures refused { IfErr result (λ e. (e ≡ RefRefusal.Memory)
         ⊎ (update_conflict map.now update.now ≡ Some e)) }
 {
-    if map.get(&update.name).is_none() {
+    if !map.contains(update.name.bytes()) {
         return Ok(());
     }
     let Some(with) = least_conflict(alloc, map, &update.name)? else {

@@ -5,6 +5,7 @@ ghost use Rattle.refstore.specs.Conflicts.{IsLeastAbove, IsLeastUnder, NoneAbove
 ghost use Rattle.refstore.specs.RefMap.{IsRefMap};
 ghost use Rattle.refstore.specs.Updates.{least_conflict};
 
+use crate::planned::Planned;
 use crate::ref_map::RefMap;
 use px_base::{Bytes, RefName};
 use std::alloc::{AllocError, Global};
@@ -13,7 +14,7 @@ use std::alloc::{AllocError, Global};
 /// under it, and of those above it the shortest comes first.
 pub fn least_conflict(
     alloc: Global,
-    map: &RefMap,
+    map: &Planned,
     name: &RefName,
 ) -> Result<Option<RefName>, AllocError>
     requires { IsRefMap map.now }
@@ -25,8 +26,20 @@ pub fn least_conflict(
     }
 }
 
+/// The same among the names of a map as they are.
+pub fn conflict_in(
+    alloc: Global,
+    map: &RefMap,
+    name: &RefName,
+) -> Result<Option<RefName>, AllocError>
+    requires { IsRefMap map.now }
+    ensures { IfOk result (λ found. found ≡ least_conflict map.now name.now) }
+{
+    least_conflict(alloc, &Planned::of(alloc, map), name)
+}
+
 // The least name that is above this one: each ends before one of its slashes.
-fn least_above(alloc: Global, map: &RefMap, name: &RefName) -> Result<Option<RefName>, AllocError>
+fn least_above(alloc: Global, map: &Planned, name: &RefName) -> Result<Option<RefName>, AllocError>
     ensures { IfOk result (λ found. MatchOption found (NoneAbove map.now name.now)
         (λ above. IsLeastAbove map.now name.now above)) }
 {
@@ -52,7 +65,7 @@ fn with_slash(alloc: Global, name: &RefName) -> Result<Bytes, AllocError>
 
 // The least name that is under this one. In the order of the names, those that begin with it and a
 // slash stand together, and none stands between these two bytes and the first of them.
-fn least_under(alloc: Global, map: &RefMap, name: &RefName) -> Result<Option<RefName>, AllocError>
+fn least_under(alloc: Global, map: &Planned, name: &RefName) -> Result<Option<RefName>, AllocError>
     ensures { IfOk result (λ found. MatchOption found (NoneUnder map.now name.now)
         (λ under. IsLeastUnder map.now name.now under)) }
 {

@@ -5,10 +5,9 @@ ghost use Rattle.px_base.specs.RefList.{IsRefList};
 ghost use Rattle.refstore.specs.Hook.{vote_on};
 ghost use Rattle.refstore.specs.Updates.{after, refusal_of, Fits};
 
-use crate::checks::{check_conflicts, check_each};
 use crate::hook::vote_of;
 use crate::refs::Refs;
-use px_base::{Hash, MAX_REFS, ObjectId, RefName, Update};
+use px_base::{Hash, ObjectId, RefName, Update};
 use std::alloc::{AllocError, Global};
 use std::marker::Model;
 
@@ -85,16 +84,9 @@ impl Prepared {
         ensures refused { IfErr result (λ e. (e ≡ RefRefusal.Memory)
             ⊎ (refusal_of refs.now updates.now ≡ Some e)) }
     {
-        if updates.is_empty() {
-            return Err(RefRefusal::Empty);
-        }
-        check_each(alloc, refs, updates)?;
+        refs.check(alloc, updates)?;
         let map = refs.map().updated(alloc, updates)?;
-        let count = map.len();
-        check_conflicts(alloc, &map, updates)?;
-        if count > MAX_REFS {
-            return Err(RefRefusal::TooManyRefs);
-        }
+        let _names = map.len();
         Ok(Prepared {
             refs: Refs::of_map(map),
             vote: vote_of(updates),

@@ -6,10 +6,12 @@ ghost use Rattle.px_base.specs.RefList.{IsRefList, ref_at};
 ghost use Rattle.refstore.specs.RefMap.{IsRefMap};
 ghost use Rattle.refstore.specs.Updates.{Fits, after, creation, least_conflict, refusal_of};
 
-use crate::conflict::least_conflict;
+use crate::checks::{check_conflicts, check_each};
+use crate::conflict::conflict_in;
+use crate::planned::Planned;
 use crate::prepared::RefRefusal;
 use crate::ref_map::RefMap;
-use px_base::{MAX_REFS, ObjectId, RefList, RefName};
+use px_base::{MAX_REFS, ObjectId, RefList, RefName, Update};
 use std::alloc::{AllocError, Global};
 use std::marker::Model;
 
@@ -52,12 +54,20 @@ impl Refs {
         Ok(Refs { map })
     }
 
-    // The references of a map that a repository may have.
-    pub(crate) fn of_map(map: RefMap) -> Refs
+    /// The references of a map that a repository may have.
+    pub fn of_map(map: RefMap) -> Refs
         requires { IsRefList map }
         ensures { result ≡ map }
     {
         Refs { map }
+    }
+
+    /// The map of them, to be changed.
+    pub fn into_map(self) -> RefMap
+        ensures value { result ≡ self }
+        ensures list { IsRefList self }
+    {
+        self.map
     }
 
     // Their map.
@@ -98,6 +108,27 @@ impl Refs {
         self.map.list(alloc)
     }
 
+    /// Whether a list of updates may be done, which is found by look-ups: the time does not grow with
+    /// the references but by them.
+    pub fn check(&self, alloc: Global, updates: &[Update]) -> Result<(), RefRefusal>
+        ensures accepted { OnOk result (Fits updates.now self.now) }
+        ensures list { OnOk result (IsRefList self.now) }
+        ensures refused { IfErr result (λ e. (e ≡ RefRefusal.Memory)
+            ⊎ (refusal_of self.now updates.now ≡ Some e)) }
+    {
+        if updates.is_empty() {
+            return Err(RefRefusal::Empty);
+        }
+        check_each(alloc, self, updates)?;
+        let mut planned = Planned::of(alloc, self.map());
+        planned.update_all(alloc, updates)?;
+        check_conflicts(alloc, &planned, updates)?;
+        if planned.len() > MAX_REFS {
+            return Err(RefRefusal::TooManyRefs);
+        }
+        Ok(())
+    }
+
     /// Creates a reference: what a list of this one creation does, done in place, so that the time does
     /// not grow with the references but by look-ups. A refusal leaves the references as they were. It is
     /// `Void` for the zero name, `Stale` where the name is there, `Conflict`, `TooManyRefs` or `Memory`.
@@ -135,7 +166,7 @@ fn add(map: &mut RefMap, alloc: Global, name: RefName, id: ObjectId) -> Result<(
         ⊎ (refusal_of map.old (creation name id ∷ []) ≡ Some e)) }
     ensures err { OnErr result (map.new ≡ map.old) }
 {
-    match least_conflict(alloc, map, &name)? {
+    match conflict_in(alloc, map, &name)? {
         Some(with) => Err(RefRefusal::Conflict { name, with }),
         None => add_apart(map, alloc, &name, id),
     }

@@ -3,13 +3,13 @@ use Rattle.std.proofs.Common.{◌≡◌, ℕ, ◌+◌, ◌≤◌, Option, Some, 
 use Rattle.replica_invariant.specs.Booking.{Absent}
 use Rattle.replica_invariant.specs.Contents.{Content}
 use Rattle.replica_invariant.specs.Jobs.{applied, ApplyKeeps}
-use Rattle.replica_invariant.specs.Purposes.{Apply, Commit, Create, Deleting, Effect, effect, Fencing, is_job, Purpose, Remove, Unused, Updating}
+use Rattle.replica_invariant.specs.Purposes.{Pushing, Apply, Commit, Create, Deleting, Effect, effect, Fencing, is_job, Purpose, Remove, Unused, Updating}
 use Rattle.replica_invariant.specs.ReplicaClauses.{BookingClause, FitsApply, FitsEffect, HasLevel, IsApplied, IsRunning, IsSnapshot, JobClause, ReadyClause, ReplicaClauses}
 use Rattle.replica_invariant.specs.State.{Job, Replica, Shared, with_value}
 use Rattle.push_events.proofs.OneReplica.{replica_event, later_self}
 use Rattle.job_events.proofs.Deliver.{used, push, back, creation, effects, named, no_commit, no_doubt, old_ack, old_made, book, outside}
 use Rattle.push_events.proofs.Changed.{re_begun, re_creating, re_drawn, re_early, re_zero}
-use Rattle.push_events.proofs.Purposes.{fence_over, IsUpdate}
+use Rattle.push_events.proofs.Purposes.{IsPush, push_over, fence_over, IsUpdate}
 use Rattle.push_events.proofs.Values.{none_some, value_case}
 
 module _ (sh : Shared) (r : Replica) (l s g k : ℕ) (m : Content) (a b : Bool) (h : ReplicaClauses sh r) (purpose : r.purpose l ≡ Updating s g (Some (m, k)) a) (live : r.node.fence ≤ l) where
@@ -135,4 +135,5 @@ apply_keeps st t l s g k m a b i can =
     (applied_ok st.shared r l s g k m a b (i.replicas t) purpose live)
     (λ f. absurd (let z : Unused ≡ Updating s g (Some (m, k)) a = sym (f.purpose l) ∙ purpose in cc)) refl refl refl
     (applied_updates st.shared r l s g k m a b (i.replicas t) purpose live)
+    (push_over r.purpose l c (λ w q. absurd (let z : Updating s g (Some (m, k)) b ≡ Pushing w (q.0) (q.1) = q.2 in cc)))
     (λ p e q. absurd (outside st.shared r l c (Apply g) (i.replicas t) (ap is_job purpose) live (ap effect purpose) refl refl p (p.told t) (p.cast t) ((i.turn p e).member t q)))

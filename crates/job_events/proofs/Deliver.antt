@@ -6,8 +6,9 @@ use Rattle.replica_invariant.specs.Invariant.{MemberClause}
 use Rattle.replica_invariant.specs.Purposes.{Commit, Creation, Deleting, Effect, effect, Fencing, is_committed, is_creation, is_job, Purpose, Pushing, Unused, Updating}
 use Rattle.replica_invariant.specs.ReplicaClauses.{BookingClause, ReplicaClauses}
 use Rattle.replica_invariant.specs.State.{OpenPush, Replica, Shared, with_value}
-use Rattle.push_events.proofs.Changed.{IsPush, re_push, renamed_kept}
+use Rattle.push_events.proofs.Changed.{re_push, renamed_kept}
 use Rattle.push_events.proofs.Values.{none_some, three, value_case}
+use Rattle.push_events.proofs.Purposes.{IsPush}
 
 -- what both share: under a job's lease l, with the effect e live
 module _ (sh : Shared) (r : Replica) (l : ℕ) (c : Purpose) (e : Effect) (h : ReplicaClauses sh r) (job : is_job (r.purpose l) ≡ true) (live : r.node.fence ≤ l) (is : effect (r.purpose l) ≡ Some e)

@@ -52,6 +52,7 @@ with_job_member p t y r o m = record {
 with_job_turn : (st : State) (s : ℕ) (o : Option Job) → Invariant st → (p : OpenPush) → st.turn ≡ Some p → PushClause st.shared (with_value st.replica s (with_job (st.replica s) o)) p
 with_job_turn st s o i p e = let t = i.turn p e in record {
   some = t.some;
+  named = λ x n c a. value_case (λ y w. w.purpose p.lease ≡ Pushing n c a → p.members y ≡ true) st.replica s (with_job (st.replica s) o) x (t.named s n c a) (λ z. t.named x n c a);
   undecided = t.undecided;
   told = t.told;
   decided = t.decided;
@@ -144,6 +145,7 @@ module _ (st : State) (t : ℕ) (j : Job) (l s : ℕ) (x : Option (Content × �
   turn : (p : OpenPush) → st.turn ≡ Some p → PushClause st.shared (with_value st.replica t (ended r g)) p
   turn p e = let y = i.turn p e in record {
     some = y.some;
+    named = λ k n o a. value_case (λ v w. w.purpose p.lease ≡ Pushing n o a → p.members v ≡ true) st.replica t (ended r g) k (y.named t n o a) (λ z. y.named k n o a);
     undecided = y.undecided;
     told = y.told;
     decided = y.decided;

@@ -2,13 +2,13 @@
 use Rattle.std.proofs.Common.{◌≡◌, ℕ, ◌+◌, ◌≤◌, Some, None, Bool, true, false, refl, sym, ◌∙◌, ap, arith}
 use Rattle.replica_invariant.specs.Booking.{Absent, Doubt}
 use Rattle.replica_invariant.specs.Jobs.{removed, RemoveKeeps}
-use Rattle.replica_invariant.specs.Purposes.{Apply, Commit, Create, Deleting, Effect, effect, Fencing, is_job, Purpose, Remove, Unused, Updating}
+use Rattle.replica_invariant.specs.Purposes.{Pushing, Apply, Commit, Create, Deleting, Effect, effect, Fencing, is_job, Purpose, Remove, Unused, Updating}
 use Rattle.replica_invariant.specs.ReplicaClauses.{FitsEffect, FitsRemove, HasLevel, IsApplied, IsRunning, IsSnapshot, JobClause, ReadyClause, ReplicaClauses}
 use Rattle.replica_invariant.specs.State.{Job, Replica, Shared}
 use Rattle.push_events.proofs.OneReplica.{replica_event, later_self}
 use Rattle.job_events.proofs.Deliver.{used, push, back, creation, effects, named, no_commit, old_ack, old_made, outside}
 use Rattle.push_events.proofs.Changed.{re_begun, re_creating, re_drawn, re_early, re_zero}
-use Rattle.push_events.proofs.Purposes.{fence_over, IsUpdate}
+use Rattle.push_events.proofs.Purposes.{IsPush, push_over, fence_over, IsUpdate}
 use Rattle.push_events.proofs.Values.{none_some, value_case}
 
 module _ (sh : Shared) (r : Replica) (l : ℕ) (a b : Bool) (h : ReplicaClauses sh r) (purpose : r.purpose l ≡ Deleting a) (live : r.node.fence ≤ l) where
@@ -103,4 +103,5 @@ remove_keeps st t l a b i can =
     (removed_ok st.shared r l a b (i.replicas t) purpose live)
     (λ f. absurd (let z : Unused ≡ Deleting a = sym (f.purpose l) ∙ purpose in cc)) refl refl refl
     (λ k s g. value_case (λ v d. IsUpdate d s g → IsUpdate (r.purpose v) s g) r.purpose l (Deleting b) k (λ q. absurd (let z : Deleting b ≡ Updating s g (q.0) (q.1) = q.2 in cc)) (λ z q. q))
+    (push_over r.purpose l (Deleting b) (λ w q. absurd (let z : Deleting b ≡ Pushing w (q.0) (q.1) = q.2 in cc)))
     (λ p e q. absurd (outside st.shared r l (Deleting b) Remove (i.replicas t) (ap is_job purpose) live (ap effect purpose) refl refl p (p.told t) (p.cast t) ((i.turn p e).member t q)))

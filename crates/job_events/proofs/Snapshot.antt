@@ -8,8 +8,8 @@ use Rattle.replica_invariant.specs.Pushes.{issued}
 use Rattle.replica_invariant.specs.ReplicaClauses.{FitsEffect, IsApplied, IsRunning, IsSnapshot, JobClause, ReplicaClauses}
 use Rattle.replica_invariant.specs.State.{Job, OpenPush, Replica, Shared}
 use Rattle.push_events.proofs.OneReplica.{replica_event, later_self}
-use Rattle.push_events.proofs.Changed.{IsPush, re_begun, re_creating, re_drawn, re_early, re_push, re_zero}
-use Rattle.push_events.proofs.Purposes.{fence_over, IsUpdate}
+use Rattle.push_events.proofs.Changed.{re_begun, re_creating, re_drawn, re_early, re_push, re_zero}
+use Rattle.push_events.proofs.Purposes.{IsPush, push_over, fence_over, IsUpdate}
 use Rattle.push_events.proofs.Values.{value_case}
 
 module _ (sh : Shared) (r : Replica) (l s g : ℕ) (x : Option (Content × ℕ)) (a : Bool) (m : Content) (k : ℕ) (h : ReplicaClauses sh r) (purpose : r.purpose l ≡ Updating s g x a) (snap : IsSnapshot sh g m k) where
@@ -137,4 +137,5 @@ snapshot_keeps st t l s g k x a i c =
     (snapped_ok st.shared r l s g x a src.node.refs k (i.replicas t) purpose snap)
     (λ f. absurd (let z : Unused ≡ Updating s g x a = sym (f.purpose l) ∙ purpose in cc)) refl refl refl
     (snapped_updates st.shared r l s g x a src.node.refs k (i.replicas t) purpose snap)
+    (push_over r.purpose l (Updating s g (Some (src.node.refs, k)) a) (λ w q. absurd (let z : Updating s g (Some (src.node.refs, k)) a ≡ Pushing w (q.0) (q.1) = q.2 in cc)))
     (λ p e q. snapped_member st.shared r l s g x a src.node.refs k (i.replicas t) purpose snap p (p.told t) (p.cast t) ((i.turn p e).member t q))

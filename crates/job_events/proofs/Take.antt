@@ -9,7 +9,7 @@ use Rattle.replica_invariant.specs.State.{Job, OpenPush, Replica, Running, Share
 use Rattle.job_events.proofs.Jobs.{with_job_ok}
 use Rattle.push_events.proofs.Draw.{drawn_ok}
 use Rattle.push_events.proofs.Later.{Later, replica_later}
-use Rattle.push_events.proofs.Purposes.{IsUpdate}
+use Rattle.push_events.proofs.Purposes.{IsPush, push_over, IsUpdate}
 use Rattle.push_events.proofs.Values.{none_some, three, value_case, value_elsewhere, value_here}
 use Rattle.replica_invariant.specs.Creations.{drawn}
 
@@ -17,7 +17,8 @@ use Rattle.replica_invariant.specs.Creations.{drawn}
 module _ (st : State) (t : ℕ) (r' : Replica) (i : Invariant st) (ok : ReplicaClauses (record st.shared { last = st.shared.last + 1 }) r') (known : t < st.admitted)
     (outside : (p : OpenPush) → st.turn ≡ Some p → p.members t ≡ false) (floor : r'.floor ≡ (st.replica t).floor)
     (other : ((x : ℕ) → (with_value st.replica t r' x).booking ≡ Absent) → ⊥)
-    (sources : (k a g : ℕ) → IsUpdate (r'.purpose k) a g → SourceClause st.replica t a g) where
+    (sources : (k a g : ℕ) → IsUpdate (r'.purpose k) a g → SourceClause st.replica t a g)
+    (pushes : (k w : ℕ) → IsPush (r'.purpose k) w → IsPush ((st.replica t).purpose k) w) where
   abbrev sh' : Shared
   sh' = record st.shared { last = st.shared.last + 1 }
 
@@ -33,6 +34,7 @@ module _ (st : State) (t : ℕ) (r' : Replica) (i : Invariant st) (ok : ReplicaC
   turn_ok : (p : OpenPush) → st.turn ≡ Some p → PushClause sh' (with_value st.replica t r') p
   turn_ok p e = let y = i.turn p e in record {
     some = y.some;
+    named = λ k n o a. value_case (λ v w. w.purpose p.lease ≡ Pushing n o a → p.members v ≡ true) st.replica t r' k (λ q. let v = pushes p.lease n (o, a, q) in y.named t n (v.0) (v.1) (v.2)) (λ z. y.named k n o a);
     undecided = y.undecided;
     told = y.told;
     decided = λ h d. let v = y.decided h d in record { newest = v.newest; lease = v.lease; hash = v.hash };
@@ -123,6 +125,7 @@ module _ (st : State) (t s : ℕ) (i : Invariant st) (c : CanTakeUpdate st t s) 
       (λ q. let w : Updating s n None false ≡ Updating a g (q.0) (q.1) = q.2 in let e1 : s ≡ a = cc in let e2 : n ≡ g = cc in
       subst (λ v. SourceClause st.replica t v g) e1 (subst (λ v. SourceClause st.replica t s v) e2 (record { other = apart; floor = (n, (i.replicas s).book.at n c.source_, omega arith) })))
       (λ z q. i.source t k a g (q.0) (q.1) (q.2)))
+      (push_over r.purpose l purpose (λ w q. absurd (let z : Updating s n None false ≡ Pushing w (q.0) (q.1) = q.2 in cc)))
 
 pub take_update_keeps : TakeUpdateKeeps
 take_update_keeps st t s i c = take st t s i c

@@ -9,7 +9,7 @@ use Rattle.replica_invariant.specs.State.{Job, Replica, Running, Shared, Waiting
 use Rattle.job_events.proofs.Take.{draw_event}
 use Rattle.push_events.proofs.Dead.{used_named}
 use Rattle.push_events.proofs.Later.{replica_later}
-use Rattle.push_events.proofs.Purposes.{fence_over, IsUpdate}
+use Rattle.push_events.proofs.Purposes.{push_over, fence_over, IsUpdate}
 use Rattle.push_events.proofs.Values.{none_some, value_case, value_elsewhere, value_here}
 
 module _ (sh : Shared) (r : Replica) (l : ℕ) (h : ReplicaClauses sh r) (last : l ≡ sh.last) (new : r.kept < l) (creation : sh.creation < l) (floor : r.floor ≡ None → ⊥) where
@@ -118,3 +118,4 @@ take_delete_keeps st t i c =
     c.known c.outside refl (λ a. let z : At st.shared.newest ≡ Absent = sym cur ∙ sym (ap (λ v. v.booking) (value_elsewhere st.replica t (taken r l (Deleting false) false st.shared.newest Absent) s apart)) ∙ a s in cc)
     (λ k a g. value_case (λ v d. IsUpdate d a g → SourceClause st.replica t a g) r.purpose l (Deleting false) k
     (λ q. absurd (let w : Deleting false ≡ Updating a g (q.0) (q.1) = q.2 in cc)) (λ z q. i.source t k a g (q.0) (q.1) (q.2)))
+    (push_over r.purpose l (Deleting false) (λ w q. absurd (let z : Deleting false ≡ Pushing w (q.0) (q.1) = q.2 in cc)))

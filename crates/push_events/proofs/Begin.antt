@@ -3,7 +3,7 @@ use Rattle.std.proofs.Common.{◌≡◌, ℕ, ◌+◌, ◌≤◌, Some, None, Bo
 use Rattle.replica_invariant.specs.Booking.{Absent, At}
 use Rattle.replica_invariant.specs.Creations.{drawn}
 use Rattle.replica_invariant.specs.Invariant.{Invariant, IsDecided, IsUntouched, LogClause, MemberClause, PushClause}
-use Rattle.replica_invariant.specs.Purposes.{effect, Fencing, Purpose, Pushing, Updating}
+use Rattle.replica_invariant.specs.Purposes.{Unused, effect, Fencing, Purpose, Pushing, Updating}
 use Rattle.replica_invariant.specs.Pushes.{BeginKeeps, begun, CanBegin}
 use Rattle.replica_invariant.specs.ReplicaClauses.{FitsEffect, ReplicaClauses}
 use Rattle.replica_invariant.specs.State.{OpenPush, Replica, Shared, State, with_value}
@@ -73,6 +73,8 @@ module _ (st : State) (m : ℕ → Bool) (i : Invariant st) (c : CanBegin st m) 
   turn : PushClause sh' (begun st m).replica p
   turn = record {
     some = c.some;
+    named = λ s n o a. choose (λ r. r.purpose l ≡ Pushing n o a → m s ≡ true) (m s) (drawn (st.replica s) l purpose) (st.replica s) (λ q e. q)
+        (λ q e. absurd (let z : Unused ≡ Pushing n o a = sym ((i.replicas s).lease.drawn l (omega (arith, (i.replicas s).lease.kept))) ∙ e in cc));
     member = λ s e. choose (λ r. MemberClause p false false r) (m s) (drawn (st.replica s) l purpose) (st.replica s) (λ q. member s q) (λ q. absurd (let z : true ≡ false = sym e ∙ q in cc));
     undecided = λ e. refl;
     decided = λ h e. none_some (IsDecided sh' p h) e;

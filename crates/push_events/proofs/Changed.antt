@@ -5,10 +5,8 @@ use Rattle.replica_invariant.specs.Purposes.{is_creation, Purpose, Pushing, Unus
 use Rattle.replica_invariant.specs.ReplicaClauses.{ReplicaClauses}
 use Rattle.replica_invariant.specs.State.{Replica, Shared, with_value}
 use Rattle.push_events.proofs.Dead.{used_named}
+use Rattle.push_events.proofs.Purposes.{IsPush}
 use Rattle.push_events.proofs.Values.{value_case, value_elsewhere}
-
-abbrev pub IsPush : Purpose → ℕ → Type 0
-IsPush c w = (o : Option Vote) × (e : Bool) × (c ≡ Pushing w o e)
 
 module _ (sh : Shared) (r : Replica) (l : ℕ) (c : Purpose) (h : ReplicaClauses sh r) (used : r.purpose l ≡ Unused → ⊥)
     (push : (w : ℕ) → IsPush (r.purpose l) w → IsPush c w) (back : (w : ℕ) → IsPush c w → IsPush (r.purpose l) w)

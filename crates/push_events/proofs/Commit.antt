@@ -9,7 +9,7 @@ use Rattle.replica_invariant.specs.ReplicaClauses.{BookingClause, CommitClause, 
 use Rattle.replica_invariant.specs.State.{OpenPush, Replica, Shared}
 use Rattle.push_events.proofs.OneReplica.{replica_event}
 use Rattle.push_events.proofs.Later.{Later, replica_later}
-use Rattle.push_events.proofs.Purposes.{fence_over, job_over, update_over}
+use Rattle.push_events.proofs.Purposes.{push_over, fence_over, job_over, update_over}
 use Rattle.push_events.proofs.Values.{none_some, three, value_case, value_elsewhere, value_here}
 
 filled_is : (o : Option Content) (m : Content) → ((x : Content) → o ≡ Some x → x ≡ m) → filled o m ≡ Some m
@@ -244,4 +244,5 @@ commit_keeps st s l n h a b p i c answer =
     (fill_log sh n l p.content i.log iss.lease q is)
     (committed_ok (fill sh (n + 1) p.content) r l n h a b p.content ok' c.purpose c.live here answer)
     (λ f. absurd (let z : Unused ≡ Pushing n (Some h) a = sym (f.purpose l) ∙ c.purpose in cc)) refl refl refl (update_over r.purpose l (Pushing n (Some h) b) refl)
+    (push_over r.purpose l (Pushing n (Some h) b) (λ w q. (Some h, a, (let z : Pushing n (Some h) b ≡ Pushing w (q.0) (q.1) = q.2 in let v : n ≡ w = cc in c.purpose ∙ ap (λ y. Pushing y (Some h) a) v))))
     (λ t e m. committed_member (fill sh (n + 1) p.content) r l n h a b p.content ok' c.purpose c.live here answer t (t.told s) (t.cast s) ((i.turn t e).member s m))

@@ -3,7 +3,7 @@ use Rattle.std.proofs.Common.{◌≡◌, ℕ, ◌+◌, Some, true, false, inl, i
 use Rattle.replica_invariant.specs.Booking.{Absent, At, Doubt}
 use Rattle.replica_invariant.specs.Contents.{Vote}
 use Rattle.replica_invariant.specs.Invariant.{Invariant, MemberClause, PushClause}
-use Rattle.replica_invariant.specs.Purposes.{is_job}
+use Rattle.replica_invariant.specs.Purposes.{Pushing, is_job}
 use Rattle.replica_invariant.specs.Pushes.{CanConfirm, confirmed, confirmed_cast, ConfirmKeeps}
 use Rattle.replica_invariant.specs.ReplicaClauses.{IsAnswered, ReplicaClauses}
 use Rattle.replica_invariant.specs.State.{OpenPush, Replica, State, with_value}
@@ -57,6 +57,7 @@ module _ (st : State) (p : OpenPush) (v : ℕ) (h : Vote) (i : Invariant st) (c 
   turn : PushClause st.shared (with_value st.replica v r') p'
   turn = record {
     some = t.some;
+    named = λ x n o a. value_case (λ y w. w.purpose p.lease ≡ Pushing n o a → p.members y ≡ true) st.replica v r' x (t.named v n o a) (λ z. t.named x n o a);
     member = member;
     undecided = t.undecided;
     decided = λ x e. let q = t.decided x e in record { newest = q.newest; lease = q.lease; hash = q.hash };

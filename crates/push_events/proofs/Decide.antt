@@ -10,6 +10,7 @@ use Rattle.push_events.proofs.Doubt.{doubted_is, in_doubt_ok, in_doubt_told}
 use Rattle.push_events.proofs.Later.{Later, replica_later}
 use Rattle.push_events.proofs.Purposes.{IsUpdate, source_keeps}
 use Rattle.push_events.proofs.Values.{bool, choose, choose_at, none_some, three, value_elsewhere, value_here}
+use Rattle.replica_invariant.specs.Purposes.{Pushing}
 
 module _ (st : State) (p : OpenPush) (told : ℕ → Bool) (h : Vote) (i : Invariant st) (c : CanDecide st p told) where
   abbrev sh' : Shared
@@ -112,6 +113,7 @@ module _ (st : State) (p : OpenPush) (told : ℕ → Bool) (h : Vote) (i : Invar
   turn : PushClause sh' (decided st p told h).replica (record p { decided = Some h; told = told })
   turn = record {
     some = t.some;
+    named = λ s n o a. choose (λ r. r.purpose p.lease ≡ Pushing n o a → p.members s ≡ true) (told s) (doubted (st.replica s) p.lease (st.shared.newest + 1)) (st.replica s) (λ e. t.named s n o a) (λ e. t.named s n o a);
     member = λ s m. choose_at (λ b r. MemberClause (record p { decided = Some h; told = told }) b (p.cast s) r) (told s) (doubted (st.replica s) p.lease (st.shared.newest + 1)) (st.replica s)
         (λ e. member_there s m (p.cast s)) (λ e. same_member s m);
     undecided = λ e. cc;

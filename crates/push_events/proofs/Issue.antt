@@ -7,9 +7,9 @@ use Rattle.replica_invariant.specs.Pushes.{CanIssue, issued, IssueKeeps}
 use Rattle.replica_invariant.specs.ReplicaClauses.{FitsCommit, FitsEffect, IsApplied, IsIssued, IsMade, IsSnapshot, LiveClause, QuietBelow, ReplicaClauses}
 use Rattle.replica_invariant.specs.State.{OpenPush, Replica, Shared, State, with_value}
 use Rattle.push_events.proofs.OneReplica.{replica_event, later_self}
-use Rattle.push_events.proofs.Changed.{IsPush, re_begun, re_creating, re_drawn, re_early, re_push, re_zero}
+use Rattle.push_events.proofs.Changed.{re_begun, re_creating, re_drawn, re_early, re_push, re_zero}
 use Rattle.push_events.proofs.Dead.{used_named}
-use Rattle.push_events.proofs.Purposes.{fence_over, job_over, update_over}
+use Rattle.push_events.proofs.Purposes.{IsPush, push_over, fence_over, job_over, update_over}
 use Rattle.push_events.proofs.Values.{none_some, three, value_case, value_elsewhere}
 
 module _ (sh : Shared) (r : Replica) (l n : ℕ) (x : Vote) (o : Option Vote) (a : Bool) (h : ReplicaClauses sh r) (purpose : r.purpose l ≡ Pushing n o a)
@@ -130,6 +130,7 @@ module _ (st : State) (p : OpenPush) (v : ℕ) (h : Vote) (x : Option Vote) (a :
   keeps = replica_event st st.shared v (issued (st.replica v) p.lease (Pushing p.begun (Some h) a)) i (later_self st.shared) refl refl i.log
       (issued_ok st.shared (st.replica v) p.lease p.begun h x a ok c.purpose d.kept d.quiet fit iss)
       (λ f. absurd (let z : Unused ≡ Pushing p.begun x a = sym (f.purpose p.lease) ∙ c.purpose in cc)) refl refl refl (update_over (st.replica v).purpose p.lease (Pushing p.begun (Some h) a) refl)
+      (push_over (st.replica v).purpose p.lease (Pushing p.begun (Some h) a) (λ w q. (x, a, (let z : Pushing p.begun (Some h) a ≡ Pushing w (q.0) (q.1) = q.2 in let e : p.begun ≡ w = cc in c.purpose ∙ ap (λ y. Pushing y x a) e))))
       (λ q e m. let z : Some p ≡ Some q = sym c.turn ∙ e in let w : p ≡ q = cc in
       subst (λ y. MemberClause y (y.told v) (y.cast v) (issued (st.replica v) p.lease (Pushing p.begun (Some h) a))) w
       (issued_member st.shared (st.replica v) p.lease p.begun h x a ok c.purpose d.kept d.quiet fit iss p (p.told v) (p.cast v) refl c.told d))

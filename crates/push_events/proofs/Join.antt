@@ -10,6 +10,7 @@ use Rattle.push_events.proofs.OneReplica.{turn_event}
 use Rattle.push_events.proofs.Booked.{member_as}
 use Rattle.push_events.proofs.Doubt.{doubted_is, in_doubt, in_doubt_ok, in_doubt_told}
 use Rattle.push_events.proofs.Values.{none_some, value_case, value_elsewhere, value_here}
+use Rattle.replica_invariant.specs.Purposes.{Pushing}
 
 module _ (st : State) (p : OpenPush) (v : ℕ) (h : Vote) (i : Invariant st) (c : CanJoin st p v h) where
   abbrev p' : OpenPush
@@ -60,6 +61,7 @@ module _ (st : State) (p : OpenPush) (v : ℕ) (h : Vote) (i : Invariant st) (c 
   turn : PushClause st.shared (with_value st.replica v r') p'
   turn = record {
     some = t.some;
+    named = λ x n o a. value_case (λ y w. w.purpose p.lease ≡ Pushing n o a → p.members y ≡ true) st.replica v r' x (t.named v n o a) (λ z. t.named x n o a);
     member = member;
     undecided = t.undecided;
     decided = λ x e. let q = t.decided x e in record { newest = q.newest; lease = q.lease; hash = q.hash };

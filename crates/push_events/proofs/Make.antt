@@ -7,8 +7,8 @@ use Rattle.replica_invariant.specs.Purposes.{Apply, Commit, Create, Creation, Ef
 use Rattle.replica_invariant.specs.ReplicaClauses.{FitsCommit, FitsEffect, HasLevel, IsApplied, IsMade, IsSnapshot, QuietBelow, ReadyClause, ReplicaClauses}
 use Rattle.replica_invariant.specs.State.{OpenPush, Replica, Shared}
 use Rattle.push_events.proofs.OneReplica.{replica_event, later_self}
-use Rattle.push_events.proofs.Changed.{IsPush, re_begun, re_creating, re_drawn, re_early, re_zero, renamed_kept}
-use Rattle.push_events.proofs.Purposes.{fence_over, job_over, update_over}
+use Rattle.push_events.proofs.Changed.{re_begun, re_creating, re_drawn, re_early, re_zero, renamed_kept}
+use Rattle.push_events.proofs.Purposes.{IsPush, push_over, fence_over, job_over, update_over}
 use Rattle.push_events.proofs.Values.{bool, none_some, three, value_case}
 
 module _ (sh : Shared) (r : Replica) (l : ℕ) (m m' : Bool) (h : ReplicaClauses sh r) (log : LogClause sh) (purpose : r.purpose l ≡ Creation m) (live : r.node.fence ≤ l) where
@@ -119,4 +119,5 @@ make_keeps st s l m m' i c answer =
     replica_event st st.shared s (made (st.replica s) l m') i (later_self st.shared) refl refl i.log
     (made_ok st.shared (st.replica s) l m m' (i.replicas s) i.log c.purpose c.live)
     (λ f. absurd (let z : Unused ≡ Creation m = sym (f.purpose l) ∙ c.purpose in cc)) refl refl refl (update_over (st.replica s).purpose l (Creation m') refl)
+    (push_over (st.replica s).purpose l (Creation m') (λ w q. absurd (let z : Creation m' ≡ Pushing w (q.0) (q.1) = q.2 in cc)))
     (λ p e q. absurd (made_outside st.shared (st.replica s) l m m' (i.replicas s) i.log c.purpose c.live p (p.told s) (p.cast s) ((i.turn p e).member s q)))

@@ -5,8 +5,9 @@ use Rattle.replica_invariant.specs.Invariant.{Invariant, IsUntouched, LogClause,
 use Rattle.replica_invariant.specs.ReplicaClauses.{ReplicaClauses}
 use Rattle.replica_invariant.specs.State.{OpenPush, Replica, Shared, State, with_value}
 use Rattle.push_events.proofs.Later.{Later, replica_later}
-use Rattle.push_events.proofs.Purposes.{IsUpdate, source_keeps}
+use Rattle.push_events.proofs.Purposes.{IsPush, IsUpdate, source_keeps}
 use Rattle.push_events.proofs.Values.{value_case, value_here}
+use Rattle.replica_invariant.specs.Purposes.{Pushing}
 
 pub later_self : (sh : Shared) → Later sh sh
 later_self sh = record { newest = omega arith; last = omega arith; creation = refl; lease = λ d b. refl; hash = λ d b. refl; content = λ d m b e. e; text = λ l h. refl }
@@ -14,6 +15,7 @@ later_self sh = record { newest = omega arith; last = omega arith; creation = re
 module _ (st : State) (sh' : Shared) (s : ℕ) (r' : Replica) (i : Invariant st) (g : Later st.shared sh') (newest : sh'.newest ≡ st.shared.newest) (last : sh'.last ≡ st.shared.last)
     (log : LogClause sh') (ok : ReplicaClauses sh' r') (known : IsUntouched (st.replica s) → IsUntouched r')
     (booking : r'.booking ≡ (st.replica s).booking) (floor : r'.floor ≡ (st.replica s).floor) (job : r'.job ≡ (st.replica s).job) (updates : (k a g : ℕ) → IsUpdate (r'.purpose k) a g → IsUpdate ((st.replica s).purpose k) a g)
+    (pushes : (k w : ℕ) → IsPush (r'.purpose k) w → IsPush ((st.replica s).purpose k) w)
     (member : (p : OpenPush) → st.turn ≡ Some p → p.members s ≡ true → MemberClause p (p.told s) (p.cast s) r') where
   floors : (x : ℕ) → (with_value st.replica s r' x).floor ≡ (st.replica x).floor
   floors x = value_case (λ y r. r.floor ≡ (st.replica y).floor) st.replica s r' x floor (λ n. refl)
@@ -24,6 +26,7 @@ module _ (st : State) (sh' : Shared) (s : ℕ) (r' : Replica) (i : Invariant st)
   turn_ok : (p : OpenPush) → st.turn ≡ Some p → PushClause sh' (with_value st.replica s r') p
   turn_ok p e = let t = i.turn p e in record {
     some = t.some;
+    named = λ x n o a. value_case (λ y r. r.purpose p.lease ≡ Pushing n o a → p.members y ≡ true) st.replica s r' x (λ q. let v = pushes p.lease n (o, a, q) in t.named s n (v.0) (v.1) (v.2)) (λ z. t.named x n o a);
     member = λ x. value_case (λ y r. p.members y ≡ true → MemberClause p (p.told y) (p.cast y) r) st.replica s r' x (member p e) (λ n. t.member x);
     undecided = λ d. newest ∙ t.undecided d;
     decided = λ h d. let q = t.decided h d in let b : p.begun + 1 ≤ st.shared.newest = omega (arith, q.newest) in

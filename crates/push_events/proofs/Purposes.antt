@@ -1,10 +1,10 @@
 -- What purposes of one lease say of jobs, fences and sources where another changes.
 use Rattle.std.proofs.Common.{ap, arith, Bool, false, inl, inr, None, Option, Some, subst, sym, true, ℕ, ◌∙◌, ◌≡◌, ◌≤◌}
 use Rattle.replica_invariant.specs.Booking.{Booking}
-use Rattle.replica_invariant.specs.Contents.{Content}
+use Rattle.replica_invariant.specs.Contents.{Vote, Content}
 use Rattle.replica_invariant.specs.Invariant.{SourceClause}
 use Rattle.replica_invariant.specs.Jobs.{DoesNotRun}
-use Rattle.replica_invariant.specs.Purposes.{Fencing, is_job, Purpose, Updating}
+use Rattle.replica_invariant.specs.Purposes.{Pushing, Fencing, is_job, Purpose, Updating}
 use Rattle.replica_invariant.specs.ReplicaClauses.{FenceClause, IsRunning, JobClause, ReplicaClauses}
 use Rattle.replica_invariant.specs.State.{Job, Replica, Shared, with_value}
 use Rattle.push_events.proofs.Values.{bool, value_case, value_elsewhere}
@@ -58,3 +58,11 @@ pub source_keeps : (replica replica' : ℕ → Replica) → ((s f : ℕ) → (re
 source_keeps replica replica' grow back old t l s g x a e =
     let v = back t l s g (x, a, e) in let o = old t l s g (v.0) (v.1) (v.2) in let f = grow s (o.floor.0) (o.floor.1) in
     record { other = o.other; floor = (f.0, f.1, omega (arith, o.floor.2, f.2)) }
+
+-- the purpose is that of a push which began at a generation
+abbrev pub IsPush : Purpose → ℕ → Type 0
+IsPush c w = (o : Option Vote) × (e : Bool) × (c ≡ Pushing w o e)
+
+-- where the new purpose is a push's only if the old one was, no push is new
+pub push_over : (f : ℕ → Purpose) (l : ℕ) (c : Purpose) → ((w : ℕ) → IsPush c w → IsPush (f l) w) → (k w : ℕ) → IsPush (with_value f l c k) w → IsPush (f k) w
+push_over f l c back k w = value_case (λ y d. IsPush d w → IsPush (f y) w) f l c k (back w) (λ z q. q)

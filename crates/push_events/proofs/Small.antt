@@ -18,7 +18,7 @@ use Rattle.push_events.proofs.Values.{bool, none_some, value_case}
 raise_event : (st : State) (s f : ℕ) (o : Option ReadyPush) → Invariant st → (st.replica s).node.fence ≤ f → ((st.replica s).had ≡ true → f ≤ (st.replica s).kept + 1) → (IsUntouched (st.replica s) → IsUntouched (fenced (st.replica s) f o))
     → ((p : ReadyPush) → o ≡ Some p → ReadyClause st.shared (fenced (st.replica s) f o).node p) → Invariant (with_replica st s (fenced (st.replica s) f o))
 raise_event st s f o i up bound known ready =
-    replica_event st st.shared s (fenced (st.replica s) f o) i (later_self st.shared) refl refl i.log (raised_ok st.shared (st.replica s) f o (i.replicas s) up bound ready) known refl refl refl (λ k a g v. v)
+    replica_event st st.shared s (fenced (st.replica s) f o) i (later_self st.shared) refl refl i.log (raised_ok st.shared (st.replica s) f o (i.replicas s) up bound ready) known refl refl refl (λ k a g v. v) (λ k w v. v)
     (λ p e m. raised_member st.shared (st.replica s) f o (i.replicas s) up bound ready p (p.told s) (p.cast s) ((i.turn p e).member s m))
 
 pub prepare_keeps : PrepareKeeps
@@ -68,6 +68,7 @@ module _ (st : State) (s : ℕ) (i : Invariant st) (c : CanEnrol st.shared (st.r
   enrol_turn : (p : OpenPush) → st.turn ≡ Some p → PushClause st.shared (with_value st.replica s (booked r 0)) p
   enrol_turn p e = let t = i.turn p e in record {
     some = t.some;
+    named = λ x n o a. value_case (λ y w. w.purpose p.lease ≡ Pushing n o a → p.members y ≡ true) st.replica s (booked r 0) x (t.named s n o a) (λ z. t.named x n o a);
     member = λ x. value_case (λ y w. p.members y ≡ true → MemberClause p (p.told y) (p.cast y) w) st.replica s (booked r 0) x (λ q. absurd (outside p t q)) (λ n. t.member x);
     undecided = t.undecided;
     decided = t.decided;

@@ -7,9 +7,9 @@ use Rattle.replica_invariant.specs.Repairs.{CanAnswer, fence_answered, FenceAnsw
 use Rattle.replica_invariant.specs.ReplicaClauses.{FitsEffect, IsApplied, IsSnapshot, ReadyClause, ReplicaClauses}
 use Rattle.replica_invariant.specs.State.{OpenPush, ReadyPush, Replica, Shared, State, with_value}
 use Rattle.push_events.proofs.OneReplica.{replica_event, later_self}
-use Rattle.push_events.proofs.Changed.{IsPush, re_begun, re_creating, re_drawn, re_early, re_push, re_zero}
+use Rattle.push_events.proofs.Changed.{re_begun, re_creating, re_drawn, re_early, re_push, re_zero}
 use Rattle.push_events.proofs.Dead.{used_named}
-use Rattle.push_events.proofs.Purposes.{IsUpdate, job_over}
+use Rattle.push_events.proofs.Purposes.{IsPush, push_over, IsUpdate, job_over}
 use Rattle.push_events.proofs.Raise.{fenced, raised_member, raised_ok}
 use Rattle.push_events.proofs.Values.{none_some, value_case}
 
@@ -131,6 +131,7 @@ module _ (st : State) (t l f : ℕ) (o : Option ReadyPush) (i : Invariant st) (c
       (answered_ok sh2 (fenced w f o) l (c2.purpose.0) fence_raised c2.purpose.1 c2.reach)
       (λ q. absurd (let z : Unused ≡ Fencing (c2.purpose.0) = sym (q.purpose l) ∙ c2.purpose.1 in cc)) refl refl refl
       (λ k a n. value_case (λ v d. IsUpdate d a n → IsUpdate (w.purpose v) a n) w.purpose l (Fencing (Some w.node.committed)) k (λ q. absurd (let z : Fencing (Some w.node.committed) ≡ Updating a n (q.0) (q.1) = q.2 in cc)) (λ z q. q))
+      (push_over w.purpose l (Fencing (Some w.node.committed)) (λ n q. absurd (let z : Fencing (Some w.node.committed) ≡ Pushing n (q.0) (q.1) = q.2 in cc)))
       (λ p e m. answered_member sh2 (fenced w f o) l (c2.purpose.0) fence_raised c2.purpose.1 c2.reach p (p.told t) (p.cast t)
       (raised_member sh2 w f o (i.replicas t) c2.up bound ready p (p.told t) (p.cast t) ((i.turn p e).member t m)))
 

@@ -10,7 +10,7 @@ use Rattle.job_events.proofs.Jobs.{with_job_ok}
 use Rattle.job_events.proofs.Take.{draw_event}
 use Rattle.push_events.proofs.Draw.{drawn_ok}
 use Rattle.push_events.proofs.Later.{replica_later}
-use Rattle.push_events.proofs.Purposes.{IsUpdate}
+use Rattle.push_events.proofs.Purposes.{push_over, IsUpdate}
 use Rattle.push_events.proofs.Values.{none_some, value_case, value_here}
 use Rattle.replica_invariant.specs.Creations.{drawn}
 
@@ -46,6 +46,7 @@ module _ (st : State) (t : ℕ) (o : Option Job) (i : Invariant st) (c : CanFenc
   keeps = draw_event st t (fence_drawn r l o) i (with_job_ok sh (drawn (with_job r None) l purpose) o drawn_replica jobs) c.known
       (λ p e. none_some (p.members t ≡ false) (sym c.turn ∙ e)) refl (λ a. c.booking (sym (ap (λ v. v.booking) (value_here st.replica t (fence_drawn r l o))) ∙ a t))
       (λ k a g. value_case (λ v d. IsUpdate d a g → SourceClause st.replica t a g) r.purpose l purpose k (λ q. absurd (let w : Fencing None ≡ Updating a g (q.0) (q.1) = q.2 in cc)) (λ z q. i.source t k a g (q.0) (q.1) (q.2)))
+      (push_over r.purpose l purpose (λ w q. absurd (let z : Fencing None ≡ Pushing w (q.0) (q.1) = q.2 in cc)))
 
 pub fence_begin_keeps : FenceBeginKeeps
 fence_begin_keeps st t o i c = keeps st t o i c

@@ -33,7 +33,7 @@ module _ (st : State) (s l f : ℕ) (o : Option ReadyPush) (i : Invariant st) (c
   missed : Invariant (with_replica st s (raised_to r f o))
   missed = replica_event st sh s (fenced r f o) i (later_self sh) refl refl i.log
       (raised_ok sh r f o (i.replicas s) c.up bound ready)
-      (λ q. absurd (used (q.purpose l))) refl refl refl (λ k a n q. q)
+      (λ q. absurd (used (q.purpose l))) refl refl refl (λ k a n q. q) (λ k w q. q)
       (λ p e m. raised_member sh r f o (i.replicas s) c.up bound ready p (p.told s) (p.cast s) ((i.turn p e).member s m))
 
 pub fence_miss_keeps : FenceMissKeeps

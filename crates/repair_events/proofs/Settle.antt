@@ -3,7 +3,7 @@ use Rattle.std.proofs.Common.{◌≡◌, ℕ, ◌+◌, ◌≤◌, ◌==◌, Opti
 use Rattle.replica_invariant.specs.Booking.{Absent, At, Doubt}
 use Rattle.replica_invariant.specs.Invariant.{Invariant, MemberClause, PushClause}
 use Rattle.replica_invariant.specs.Purposes.{effect, Fencing, is_job, Pushing, Unused}
-use Rattle.replica_invariant.specs.Repairs.{AreNamed, booked_at, CanSettle, SettleKeeps, Tells}
+use Rattle.replica_invariant.specs.Repairs.{booked_at, CanSettle, SettleKeeps, Tells}
 use Rattle.replica_invariant.specs.ReplicaClauses.{DoubtBooking, ReplicaClauses}
 use Rattle.replica_invariant.specs.State.{OpenPush, Replica, Shared, State, with_value}
 use Rattle.push_events.proofs.OneReplica.{turn_event}
@@ -43,7 +43,7 @@ module _ (sh : Shared) (r : Replica) (answer : Option ℕ) (h : ReplicaClauses s
       | inr t ↦ (let v = level_of r.level refl in (v.0, v.1, (let w = v.2 in let q = t.1 in omega (arith, w, q))))
     ]
 
-module _ (st : State) (s : ℕ) (answer : Option ℕ) (lease was due g : ℕ) (i : Invariant st) (named : AreNamed st) (c : CanSettle (st.replica s) answer lease was due g) where
+module _ (st : State) (s : ℕ) (answer : Option ℕ) (lease was due g : ℕ) (i : Invariant st) (c : CanSettle (st.replica s) answer lease was due g) where
   abbrev r : Replica
   r = st.replica s
 
@@ -64,7 +64,7 @@ module _ (st : State) (s : ℕ) (answer : Option ℕ) (lease was due g : ℕ) (i
 
   -- the push of the doubt isn't the open one
   other_push : (p : OpenPush) → st.turn ≡ Some p → lease ≡ p.lease → ⊥
-  other_push p e q = outside p (i.turn p e) (named p e s was (doubt.purpose.0) (doubt.purpose.1) (ap r.purpose (sym q) ∙ doubt.purpose.2))
+  other_push p e q = outside p (i.turn p e) ((i.turn p e).named s was (doubt.purpose.0) (doubt.purpose.1) (ap r.purpose (sym q) ∙ doubt.purpose.2))
 
   low : (f : ℕ) → r.floor ≡ Some f → f ≤ g
   low f e = let z : Some was ≡ Some f = sym doubt.floor ∙ e in let y : was ≡ f = cc in let n = doubt.next in
@@ -80,6 +80,7 @@ module _ (st : State) (s : ℕ) (answer : Option ℕ) (lease was due g : ℕ) (i
   turn : (p : OpenPush) → st.turn ≡ Some p → PushClause st.shared (with_value st.replica s (booked_at r g)) p
   turn p e = let y = i.turn p e in record {
     some = y.some;
+    named = λ k n o a. value_case (λ v w. w.purpose p.lease ≡ Pushing n o a → p.members v ≡ true) st.replica s (booked_at r g) k (y.named s n o a) (λ z. y.named k n o a);
     undecided = y.undecided;
     told = y.told;
     decided = y.decided;
@@ -98,4 +99,4 @@ module _ (st : State) (s : ℕ) (answer : Option ℕ) (lease was due g : ℕ) (i
       (λ f e. (g, refl, low f e)) (λ k a b v. v) turn
 
 pub settle_keeps : SettleKeeps
-settle_keeps st s answer lease was due g i named c = settled st s answer lease was due g i named c
+settle_keeps st s answer lease was due g i c = settled st s answer lease was due g i c

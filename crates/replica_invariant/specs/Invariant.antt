@@ -87,7 +87,7 @@ pub record IsDecided (shared : Shared) (push : OpenPush) (decided : Vote) : Type
   pub lease : (shared.entry (push.begun + 1)).lease ≡ Some push.lease
   pub hash : (shared.entry (push.begun + 1)).hash ≡ decided
 
--- There are members, and who is told is one. No replica was ever booked at the new generation before a
+-- There are members; who is told is one, and so is each for whom the lease was drawn. No replica was ever booked at the new generation before a
 -- member is booked there.
 pub record PushClause (shared : Shared) (replica : ℕ → Replica) (push : OpenPush) : Type 0 where
   pub some : (storage : ℕ) × (push.members storage ≡ true)
@@ -95,6 +95,7 @@ pub record PushClause (shared : Shared) (replica : ℕ → Replica) (push : Open
   pub undecided : push.decided ≡ None → shared.newest ≡ push.begun
   pub decided : (hash : Vote) → push.decided ≡ Some hash → IsDecided shared push hash
   pub told : (storage : ℕ) → push.told storage ≡ true → push.members storage ≡ true
+  pub named : (storage begun : ℕ) (commit : Option Vote) (answered : Bool) → (replica storage).purpose push.lease ≡ Pushing begun commit answered → push.members storage ≡ true
   pub first : (hash : Vote) (storage : ℕ) → push.decided ≡ Some hash → (replica storage).floor ≡ Some (push.begun + 1) → (member : ℕ) × (push.members member ≡ true) × ((replica member).booking ≡ At (push.begun + 1))
 
 -- ---- all of it

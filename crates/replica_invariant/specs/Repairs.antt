@@ -5,7 +5,7 @@ use Rattle.replica_invariant.specs.Booking.{Absent, At, Doubt}
 use Rattle.replica_invariant.specs.Contents.{Vote, undecided}
 use Rattle.replica_invariant.specs.Invariant.{Invariant}
 use Rattle.replica_invariant.specs.Jobs.{DoesNotRun, draw_at}
-use Rattle.replica_invariant.specs.Purposes.{Fencing, Pushing}
+use Rattle.replica_invariant.specs.Purposes.{Fencing}
 use Rattle.replica_invariant.specs.State.{Entry, Job, OpenPush, ReadyPush, Replica, Shared, State, with_replica, with_value}
 
 -- ---- a lease is drawn for fencing; a job that runs goes
@@ -62,11 +62,6 @@ FenceMissKeeps = (state : State) (target lease fence : ℕ) (ready : Option Read
 
 -- ---- settling
 
--- for whom the lease of the push that has the turn was drawn is one of its members
-abbrev pub AreNamed : State → Type 0
-AreNamed state = (push : OpenPush) → state.turn ≡ Some push → (storage begun : ℕ) (commit : Option Vote) (answered : Bool)
-    → (state.replica storage).purpose push.lease ≡ Pushing begun commit answered → push.members storage ≡ true
-
 -- what the answer tells of a doubt: the generation that was due, where its lease was committed last, and
 -- else the one before
 abbrev pub Tells : Option ℕ → ℕ → ℕ → ℕ → ℕ → Type 0
@@ -83,7 +78,7 @@ abbrev pub booked_at : Replica → ℕ → Replica
 booked_at replica generation = record replica { booking = At generation; floor = Some generation }
 
 abbrev pub SettleKeeps : Type 0
-SettleKeeps = (state : State) (storage : ℕ) (answer : Option ℕ) (lease was due generation : ℕ) → Invariant state → AreNamed state
+SettleKeeps = (state : State) (storage : ℕ) (answer : Option ℕ) (lease was due generation : ℕ) → Invariant state
     → CanSettle (state.replica storage) answer lease was due generation
     → Invariant (with_replica state storage (booked_at (state.replica storage) generation))
 

@@ -9,7 +9,7 @@ use Rattle.replica_invariant.specs.State.{Job, Replica, Shared, with_value}
 use Rattle.push_events.proofs.OneReplica.{replica_event, later_self}
 use Rattle.job_events.proofs.Deliver.{used, push, back, creation, effects, named, no_commit, no_doubt, old_ack, old_made, book, outside}
 use Rattle.push_events.proofs.Changed.{re_begun, re_creating, re_drawn, re_early, re_zero}
-use Rattle.push_events.proofs.Purposes.{IsPush, push_over, fence_over, IsUpdate}
+use Rattle.push_events.proofs.Purposes.{push_over, fence_over, IsUpdate}
 use Rattle.push_events.proofs.Values.{none_some, value_case}
 
 module _ (sh : Shared) (r : Replica) (l s g k : ℕ) (m : Content) (a b : Bool) (h : ReplicaClauses sh r) (purpose : r.purpose l ≡ Updating s g (Some (m, k)) a) (live : r.node.fence ≤ l) where

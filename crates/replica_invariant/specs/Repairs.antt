@@ -1,12 +1,12 @@
 -- Fencing, settling and accepting: when each may happen (a record), what it leaves (a function), and that
 -- it keeps the invariant (a statement).
-use Rattle.std.specs.Prelude.{◌≡◌, ℕ, ◌+◌, ◌≤◌, ◌<◌, Option, Some, None, Bool, true, ◌⊎◌}
+use Rattle.std.specs.Prelude.{◌≡◌, ℕ, ◌+◌, ◌≤◌, ◌<◌, Option, Some, None, true, ◌⊎◌}
 use Rattle.replica_invariant.specs.Booking.{Absent, At, Doubt}
-use Rattle.replica_invariant.specs.Contents.{Vote, undecided}
+use Rattle.replica_invariant.specs.Contents.{undecided}
 use Rattle.replica_invariant.specs.Invariant.{Invariant}
 use Rattle.replica_invariant.specs.Jobs.{DoesNotRun, draw_at}
 use Rattle.replica_invariant.specs.Purposes.{Fencing}
-use Rattle.replica_invariant.specs.State.{Entry, Job, OpenPush, ReadyPush, Replica, Shared, State, with_replica, with_value}
+use Rattle.replica_invariant.specs.State.{Entry, Job, ReadyPush, Replica, Shared, State, with_replica, with_value}
 
 -- ---- a lease is drawn for fencing; a job that runs goes
 

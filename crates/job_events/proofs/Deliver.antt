@@ -1,4 +1,4 @@
--- What the arrivals under a job's lease share.
+-- What the deliveries under the lease of a job share.
 use Rattle.std.proofs.Common.{◌≡◌, ℕ, ◌+◌, ◌≤◌, Some, Bool, true, false, inl, inr, refl, sym, ◌∙◌, ap, arith}
 use Rattle.replica_invariant.specs.Booking.{Doubt}
 use Rattle.replica_invariant.specs.Contents.{Vote}
@@ -10,7 +10,7 @@ use Rattle.push_events.proofs.Changed.{re_push, renamed_kept}
 use Rattle.push_events.proofs.Values.{none_some, three, value_case}
 use Rattle.push_events.proofs.Purposes.{IsPush}
 
--- what both share: under a job's lease l, with the effect e live
+-- under a job's lease l, with the effect e live
 module _ (sh : Shared) (r : Replica) (l : ℕ) (c : Purpose) (e : Effect) (h : ReplicaClauses sh r)
     (job : is_job (r.purpose l) ≡ true) (live : r.node.fence ≤ l)
     (is : effect (r.purpose l) ≡ Some e)
@@ -70,8 +70,13 @@ module _ (sh : Shared) (r : Replica) (l : ℕ) (c : Purpose) (e : Effect) (h : R
     at = h.book.at;
     applies = λ k g q. h.book.applies k g (sym (effects k) ∙ q);
     doubt = λ k w d q. let v = h.book.doubt k w d q in
-        record { floor = v.floor; next = v.next; newest = v.newest; lease = v.lease;
-        purpose = re_push sh r l c h used push back creation k w v.purpose };
+        record {
+          floor = v.floor;
+          next = v.next;
+          newest = v.newest;
+          lease = v.lease;
+          purpose = re_push sh r l c h used push back creation k w v.purpose;
+        };
   }
 
   pub outside : (p : OpenPush) (t y : Bool) → MemberClause p t y r → ⊥

@@ -5,3 +5,4 @@ pub mod Jobs
 pub mod Take
 pub mod Snapshot
 pub mod TakeDelete
+pub mod ManyJobs

@@ -1,5 +1,6 @@
 //! Each law is a function with nothing in it: what it ensures is proved for all values.
 
+ghost use Rattle.replica_invariant.specs.ManyJobs.{IdleJobsFit, JobsKeep, OldJobsFit, PlannedJobsFit};
 ghost use Rattle.replica_invariant.specs.Jobs.{ApplyKeeps, DropKeeps, EndUpdateKeeps, FailKeeps, PlanKeeps, RemoveKeeps, SnapshotKeeps, TakeDeleteKeeps, TakeUpdateKeeps};
 
 /// A job that is planned keeps the invariant.
@@ -46,4 +47,13 @@ pub fn remove_keeps()
 /// So does an update that ended well: the replica is booked at the generation of the job.
 pub fn end_update_keeps()
     ensures { EndUpdateKeeps }
+{}
+
+/// So do the jobs of all replicas that are changed at once, where each gets one that it may have: the
+/// one that it has, that one in a state in which it does not run, or one that may be planned.
+pub fn any_jobs_keep()
+    ensures keeps { JobsKeep }
+    ensures old { OldJobsFit }
+    ensures idle { IdleJobsFit }
+    ensures planned { PlannedJobsFit }
 {}

@@ -1,4 +1,4 @@
--- Op Begin.
+-- A push begins.
 use Rattle.std.proofs.Common.{◌≡◌, ℕ, ◌+◌, ◌≤◌, Some, None, Bool, true, false, refl, sym, ◌∙◌, ap, subst, arith}
 use Rattle.replica_invariant.specs.Booking.{Absent, At}
 use Rattle.replica_invariant.specs.Creations.{drawn}

@@ -28,7 +28,7 @@ member_as p p' t c r el en d m = record {
       };
 }
 
--- the shared lemma Floors: where nothing is live, a level allows a booking
+-- where nothing is live, a level allows a booking
 abbrev pub booked : Replica → ℕ → Replica
 booked r g = record r { booking = At g; floor = Some g }
 

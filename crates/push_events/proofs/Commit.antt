@@ -13,7 +13,7 @@ use Rattle.push_events.proofs.Purposes.{push_over, fence_over, job_over, update_
 use Rattle.push_events.proofs.Values.{none_some, three, value_case}
 use Rattle.push_events.proofs.Filled.{fill_later, fill_log, here}
 
--- the replica of the storage at which the commit arrived
+-- the replica at which the commit was done
 module _ (sh : Shared) (r : Replica) (l n : ℕ) (x : Vote) (a b : Bool) (m : Content)
     (h : ReplicaClauses sh r)
     (purpose : r.purpose l ≡ Pushing n (Some x) a) (live : r.node.fence ≤ l)

@@ -1,4 +1,4 @@
--- Op Cast of the decided hash in the committed phase.
+-- A member confirms: it votes for the decided hash in the committed phase.
 use Rattle.std.proofs.Common.{◌≡◌, ℕ, ◌+◌, Some, true, false, inl, inr, refl, sym, ◌∙◌, ap, subst, arith}
 use Rattle.replica_invariant.specs.Booking.{Absent, At, Doubt}
 use Rattle.replica_invariant.specs.Contents.{Vote}

@@ -10,7 +10,7 @@ use Rattle.replica_invariant.specs.State.{AtNode, Replica, Shared, State}
 use Rattle.push_events.proofs.Purposes.{fence_over, IsUpdate, source_keeps, update_over}
 use Rattle.push_events.proofs.Values.{choose, none_some, three, value_case, value_elsewhere}
 
--- what a storage is where all are Absent
+-- what a replica is where all are absent
 pub record IsUncreated (sh : Shared) (r : Replica) : Type 0 where
   pub ok : ReplicaClauses sh r
   pub booking : r.booking ≡ Absent

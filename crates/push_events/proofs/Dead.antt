@@ -31,7 +31,7 @@ quiet_dead sh r l h e q x k a =
           ]
     ]
 
--- the shared lemma Dead: a fence above the kept lease leaves nothing live
+-- a fence above the kept lease leaves nothing live
 pub fenced_dead : (sh : Shared) (r : Replica) → LeaseClause sh r → r.kept < r.node.fence → Dead r
 fenced_dead sh r h lt k a = ap effect (h.drawn k (omega (arith, lt, a)))
 
@@ -43,7 +43,18 @@ used_named sh r h l u =
       | inr w ↦ elim w [ inl e ↦ omega (arith, e) | inr gt ↦ omega (arith, gt) ]
     ]
 
--- the shared lemma Current: At(newest) has the level newest and nothing live
+-- lease 0 is drawn for nothing
+pub above_zero : (sh : Shared) (r : Replica) → LeaseClause sh r → (l : ℕ) → (r.purpose l ≡ Unused → ⊥)
+    → 0 < l
+above_zero sh r h l u = elim (three 0 l) [
+  | inl lt ↦ lt
+  | inr w ↦ elim w [
+    | inl e ↦ absurd (u (subst (λ y. r.purpose y ≡ Unused) e h.zero))
+    | inr gt ↦ absurd (omega (arith, gt))
+  ]
+]
+
+-- a replica that is booked at newest has that level, and nothing is live there
 module _ (sh : Shared) (r : Replica) (h : ReplicaClauses sh r)
     (current : r.booking ≡ At sh.newest) where
   current_level_of : (o : Option ℕ) → r.level ≡ o → r.level ≡ Some sh.newest

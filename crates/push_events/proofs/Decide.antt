@@ -1,4 +1,4 @@
--- The cast that decides.
+-- The vote that decides a push.
 use Rattle.std.proofs.Common.{◌≡◌, ℕ, ◌+◌, ◌≤◌, ◌<◌, Some, None, Bool, true, false, inl, inr, refl, sym, ◌∙◌, ap, subst, arith}
 use Rattle.replica_invariant.specs.Booking.{Absent, At}
 use Rattle.replica_invariant.specs.Contents.{after, Vote}
@@ -52,7 +52,7 @@ module _ (st : State) (p : OpenPush) (told : ℕ → Bool) (h : Vote) (i : Invar
     text = λ l x. refl;
   }
 
-  -- a member's new replica
+  -- a member, once it is told
   module _ (s : ℕ) (m : p.members s ≡ true) where
     replica : ReplicaClauses sh' (doubted (st.replica s) p.lease (st.shared.newest + 1))
     replica = let d = t.member s m in let u = untold s m in

@@ -97,7 +97,7 @@ module _ (sh : Shared) (r : Replica) (l n : ℕ) (h : ReplicaClauses sh r)
     untold = λ e. cc;
   }
 
--- what the doubt of the code says, where the generation before is known
+-- a replica that is put in doubt, where the generation before is known
 pub doubted_is : (P : Replica → Type 0) (r : Replica) (l n d : ℕ) → r.booking ≡ At n → d ≡ n + 1
     → P (in_doubt r l n) → P (record r { booking = Doubt l (generation r.booking) d })
 doubted_is P r l n d b e h =

@@ -11,7 +11,7 @@ use Rattle.push_events.proofs.Dead.{used_named}
 use Rattle.push_events.proofs.Purposes.{fence_over, idle_job}
 use Rattle.push_events.proofs.Values.{none_some, value_case, value_elsewhere}
 
--- the shared lemma Draw: a new lease for this storage
+-- a lease that is drawn for the replica, with a purpose under which nothing was answered yet
 module _ (sh : Shared) (r : Replica) (l : ℕ) (c : Purpose) (h : ReplicaClauses sh r)
     (last : l ≡ sh.last) (new : r.kept < l) (creation : sh.creation < l)
     (silent : is_committed c ≡ false) (other : is_creation c ≡ false)

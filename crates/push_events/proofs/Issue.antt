@@ -1,4 +1,4 @@
--- Op Collect that answers Committed.
+-- A commit is issued to a member that is told.
 use Rattle.std.proofs.Common.{◌≡◌, ℕ, ◌+◌, ◌≤◌, Option, Some, None, Bool, true, false, inl, inr, refl, sym, ◌∙◌, ap, subst, arith}
 use Rattle.replica_invariant.specs.Contents.{Vote}
 use Rattle.replica_invariant.specs.Invariant.{Invariant, MemberClause, PushClause}

@@ -1,4 +1,4 @@
--- Op Cast that comes late.
+-- A vote for the decided hash comes late.
 use Rattle.std.proofs.Common.{◌≡◌, ℕ, ◌+◌, Some, None, Bool, true, refl, sym, ◌∙◌, subst, arith}
 use Rattle.replica_invariant.specs.Booking.{Absent, At, Doubt}
 use Rattle.replica_invariant.specs.Contents.{Vote}

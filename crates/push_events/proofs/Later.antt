@@ -62,7 +62,7 @@ module _ (sh sh' : Shared) (r : Replica) (g : Later sh sh') where
     fresh = λ a b c. h.fresh (rw g.creation at a) (rw g.creation at b) c;
   }
 
-  -- the shared lemma Log: what holds of a replica goes on holding
+  -- all clauses of a replica
   pub replica_later : ReplicaClauses sh r → ReplicaClauses sh' r
   replica_later h = record {
     book = record {

@@ -1,4 +1,4 @@
--- A create arrives.
+-- A create is delivered.
 use Rattle.std.proofs.Common.{◌≡◌, ℕ, ◌+◌, ◌≤◌, ◌<◌, Some, None, Bool, true, false, inl, inr, refl, sym, ◌∙◌, ap, subst, arith}
 use Rattle.replica_invariant.specs.Booking.{Absent, At, Booking, Doubt}
 use Rattle.replica_invariant.specs.Creations.{made, MakeKeeps}

@@ -1,4 +1,4 @@
--- An event that changes one storage's replica, and perhaps fills an entry.
+-- An event that changes one replica, and perhaps fills an entry of the log.
 use Rattle.std.proofs.Common.{◌≡◌, ℕ, ◌+◌, ◌≤◌, Option, Some, true, refl, sym, ◌∙◌, ap, arith}
 use Rattle.replica_invariant.specs.Booking.{Absent}
 use Rattle.replica_invariant.specs.Invariant.{Invariant, IsUntouched, LogClause, MemberClause, PushClause}
@@ -98,7 +98,7 @@ module _ (st : State) (sh' : Shared) (s : ℕ) (r' : Replica) (i : Invariant st)
     turn = turn_ok;
   }
 
--- an event that changes one storage's booking, and perhaps the votes
+-- an event that changes the booking of one replica, and perhaps the votes
 pub turn_event : (st : State) (s : ℕ) (r' : Replica) (o : Option OpenPush) → Invariant st
     → ReplicaClauses st.shared r' → (IsUntouched (st.replica s) → ⊥) → (r'.booking ≡ Absent → ⊥)
     → ((f : ℕ) → (st.replica s).floor ≡ Some f → (x : ℕ) × (r'.floor ≡ Some x) × (f ≤ x))

@@ -26,7 +26,7 @@ idle_by sh r l h e q j k a b =
     ∙ subst (λ y. is_job (r.purpose y) ≡ true) (sym z)
     (run_is_job r.kept (r.purpose k) r.booking r.floor j k v) in cc
 
--- the job of an idle storage asks nothing of its booking
+-- a job that does not run asks nothing of the booking
 pub idle_job : (sh : Shared) (r : Replica) (kept : ℕ) (purpose : ℕ → Purpose) (b : Booking)
     (o : Option ℕ) → ReplicaClauses sh r → DoesNotRun r → ((r.floor ≡ None → ⊥) → o ≡ None → ⊥)
     → (j : Job) → r.job ≡ Some j → JobClause sh.newest kept purpose b o j

@@ -5,7 +5,7 @@ use Rattle.replica_invariant.specs.Purposes.{Apply, Commit, Create, Effect, Remo
 use Rattle.replica_invariant.specs.ReplicaClauses.{FitsEffect, ReadyClause, ReplicaClauses}
 use Rattle.replica_invariant.specs.State.{OpenPush, ReadyPush, Replica, Shared}
 
--- the shared lemma Raise: a fence may rise to the kept lease and one
+-- the replica with this fence and this ready push
 abbrev pub fenced : Replica → ℕ → Option ReadyPush → Replica
 fenced r f o = record r { node = record r.node { fence = f; ready = o } }
 

@@ -1,4 +1,4 @@
--- prepare, abort, the loss of a prepared push, Enrol, Finish.
+-- A prepare, an abort, the loss of a push that was ready, the enrolment, and the end of a push.
 use Rattle.std.proofs.Common.{◌≡◌, ℕ, ◌+◌, ◌≤◌, Option, Some, None, true, inl, inr, refl, sym, ◌∙◌, ap, subst, arith}
 use Rattle.replica_invariant.specs.Booking.{Absent, At, Doubt}
 use Rattle.replica_invariant.specs.Contents.{after}
@@ -10,7 +10,7 @@ use Rattle.replica_invariant.specs.ReplicaClauses.{IsMade, ReadyClause, ReplicaC
 use Rattle.replica_invariant.specs.State.{OpenPush, ReadyPush, Replica, State, with_replica, with_value}
 use Rattle.push_events.proofs.OneReplica.{replica_event, turn_event, later_self}
 use Rattle.push_events.proofs.Booked.{booked, booked_ok}
-use Rattle.push_events.proofs.Dead.{fenced_dead, used_named}
+use Rattle.push_events.proofs.Dead.{above_zero, fenced_dead, used_named}
 use Rattle.push_events.proofs.Purposes.{idle_by}
 use Rattle.push_events.proofs.Raise.{fenced, raised_member, raised_ok}
 use Rattle.push_events.proofs.Values.{bool, none_some, value_case}
@@ -91,6 +91,13 @@ finish_keeps st i = record {
   turn = λ p e. none_some (PushClause st.shared st.replica p) e;
 }
 
+-- a replica that may be enrolled was never booked
+pub never_booked : (st : State) (s : ℕ) → Invariant st → CanEnrol st.shared (st.replica s)
+    → (st.replica s).floor ≡ None
+never_booked st s i c = (i.replicas s).create.fresh
+    (above_zero st.shared (st.replica s) (i.replicas s).lease st.shared.creation
+    (λ e. absurd (let z : Unused ≡ Creation true = sym e ∙ c.made in cc))) c.kept c.booking
+
 module _ (st : State) (s : ℕ) (i : Invariant st) (c : CanEnrol st.shared (st.replica s)) where
   abbrev r : Replica
   r = st.replica s
@@ -154,7 +161,7 @@ module _ (st : State) (s : ℕ) (i : Invariant st) (c : CanEnrol st.shared (st.r
       (let z : Unused ≡ Creation true = sym (f.purpose st.shared.creation) ∙ c.made in cc))
       (λ e. absurd (let z : At 0 ≡ Absent = e in cc))
       (λ f e. none_some ((x : ℕ) × (Some 0 ≡ Some x) × (f ≤ x))
-      (sym ((i.replicas s).create.fresh c.creation c.kept c.booking) ∙ e)) (λ k a g v. v) enrol_turn
+      (sym (never_booked st s i c) ∙ e)) (λ k a g v. v) enrol_turn
 
 pub enrol_keeps : EnrolKeeps
 enrol_keeps st s i c = enrol st s i c

@@ -27,7 +27,7 @@ module _ (sh : Shared) (r : Replica) (answer : Option ℕ) (h : ReplicaClauses s
   pub fence_idle : DoesNotRun r
   fence_idle = idle_by sh r r.kept h refl (ap is_job purpose)
 
-  -- a push's use of the kept lease there is not
+  -- the kept lease was not drawn for a push
   pub no_push : (l n : ℕ) (x : Option _) (a : Bool) → r.purpose l ≡ Pushing n x a → r.kept ≡ l → ⊥
   no_push l n x a e q = let z : Fencing (Some answer) ≡ Pushing n x a = sym purpose ∙ ap r.purpose q
       ∙ e in cc
@@ -78,7 +78,7 @@ module _ (st : State) (s : ℕ) (answer : Option ℕ) (lease was due g : ℕ) (i
       no_push st.shared r answer h c.purpose p.lease p.begun (d.purpose.0)
       (d.purpose.1) d.purpose.2 d.kept
 
-  -- the push of the doubt isn't the open one
+  -- the push of the doubt is not the open one
   other_push : (p : OpenPush) → st.turn ≡ Some p → lease ≡ p.lease → ⊥
   other_push p e q =
       outside p (i.turn p e)
@@ -88,8 +88,10 @@ module _ (st : State) (s : ℕ) (answer : Option ℕ) (lease was due g : ℕ) (i
   low : (f : ℕ) → r.floor ≡ Some f → f ≤ g
   low f e = let z : Some was ≡ Some f = sym doubt.floor ∙ e in let y : was ≡ f = cc in
       let n = doubt.next in
-      elim c.tells [ inl t ↦ (let q = t.1 in omega (arith, y, n, q))
-          | inr t ↦ (let q = t.1 in omega (arith, y, q)) ]
+      elim c.tells [
+        | inl t ↦ (let q = t.1 in omega (arith, y, n, q))
+        | inr t ↦ (let q = t.1 in omega (arith, y, q))
+      ]
 
   -- where the new booking is that of the open push's entry, it was booked before
   was_there : (p : OpenPush) → st.turn ≡ Some p
@@ -119,7 +121,7 @@ module _ (st : State) (s : ℕ) (answer : Option ℕ) (lease was due g : ℕ) (i
         (booked_at r g) k (λ q. absurd (outside p y q)) (λ n. y.member k);
     first = λ a k d f.
         let q : (v : ℕ) × (p.members v ≡ true)
-            × ((st.replica v).booking ≡ At (p.begun + 1)) = elim (bool (k == s)) [
+        × ((st.replica v).booking ≡ At (p.begun + 1)) = elim (bool (k == s)) [
           | inl b ↦
               (let z : Some g ≡ Some (p.begun + 1) =
               sym (ap (λ w. w.floor) (value_here st.replica s (booked_at r g)))
@@ -130,12 +132,14 @@ module _ (st : State) (s : ℕ) (answer : Option ℕ) (lease was due g : ℕ) (i
               y.first a k d
               (sym (ap (λ w. w.floor)
               (value_elsewhere st.replica s (booked_at r g) k (unequal k s b))) ∙ f)
-        ] in
-        (q.0, q.1,
-            value_case
-            (λ v w. p.members v ≡ true → (st.replica v).booking ≡ At (p.begun + 1)
-            → w.booking ≡ At (p.begun + 1)) st.replica s (booked_at r g) (q.0)
-            (λ m z. absurd (outside p y m)) (λ n m z. z) q.1 q.2);
+        ] in (
+          q.0,
+          q.1,
+          value_case
+              (λ v w. p.members v ≡ true → (st.replica v).booking ≡ At (p.begun + 1)
+              → w.booking ≡ At (p.begun + 1)) st.replica s (booked_at r g) (q.0)
+              (λ m z. absurd (outside p y m)) (λ n m z. z) q.1 q.2,
+        );
   }
 
   settled : Invariant (record st { replica = with_value st.replica s (booked_at r g) })

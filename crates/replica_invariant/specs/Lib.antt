@@ -8,3 +8,4 @@ pub mod Creations
 pub mod Pushes
 pub mod Jobs
 pub mod Repairs
+pub mod ManyJobs

@@ -15,6 +15,7 @@ use Rattle.safe_states.specs.Grows.{BookingsGrow, Grows, LeadsTo, LogGrows, Noth
 use Rattle.safe_states.specs.Happens.{Aborts, Accepts, Admits, AnswersFence, Applies, Assigns, Begins, Commits, Confirms, Creates, Decides, DrawsFence, Drops, EndsUpdate, Enrols, Fails, Finishes, Happens, Issues, Joins, Loses, Makes, MissesFence, Plans, Prepares, Reads, Removes, Settles, TakesDelete, TakesUpdate}
 use Rattle.safe_states.specs.Safe.{Holds}
 use Rattle.safe_states.proofs.Reached.{each_event_keeps_the_invariant}
+use Rattle.push_events.proofs.Small.{never_booked}
 
 -- the floor of one replica does not fall
 abbrev FloorGrows : Replica → Replica → Type 0
@@ -138,7 +139,7 @@ happens_grows _ _ i (Makes st s l b a c w) = unmoved st s _ refl
 happens_grows _ _ i (Enrols st s c) =
     at_one st s _
     (λ f e. none_some ((x : ℕ) × (Some 0 ≡ Some x) × (f ≤ x))
-    (sym ((i.replicas s).create.fresh c.creation c.kept c.booking) ∙ e))
+    (sym (never_booked st s i c) ∙ e))
 happens_grows _ _ i (Admits st) =
     record { log = self st.shared; floor = λ s f e. (f, e, omega arith) }
 happens_grows _ _ i (Assigns st m some known) =

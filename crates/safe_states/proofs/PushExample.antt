@@ -55,7 +55,7 @@ module _ (u : Updates) where
 
   r3 : IsReached s3
   r3 = Goes s2 s3 r2
-      (Enrols s2 0 (record { creation = omega arith; kept = refl; made = refl; booking = refl }))
+      (Enrols s2 0 (record { kept = refl; made = refl; booking = refl }))
 
   abbrev pub s4 : State
   s4 = begun s3 m

@@ -33,8 +33,8 @@ pub fn snapshot_keeps()
     ensures { SnapshotKeeps }
 {}
 
-/// So does an apply that is delivered, also long after its job ended, and whether its answer is kept or
-/// not.
+/// So does an apply that is delivered, also long after its job ended, and whether its answer is
+/// kept or not.
 pub fn apply_keeps()
     ensures { ApplyKeeps }
 {}
@@ -49,8 +49,8 @@ pub fn end_update_keeps()
     ensures { EndUpdateKeeps }
 {}
 
-/// So do the jobs of all replicas that are changed at once, where each gets one that it may have: the
-/// one that it has, that one in a state in which it does not run, or one that may be planned.
+/// So do the jobs of all replicas that are changed at once, where each gets one that it may have:
+/// the one that it has, that one in a state in which it does not run, or one that may be planned.
 pub fn any_jobs_keep()
     ensures keeps { JobsKeep }
     ensures old { OldJobsFit }

@@ -3,8 +3,8 @@
 ghost use Rattle.replica_invariant.specs.Creations.{AdmitKeeps, AssignKeeps, CreateKeeps, EnrolKeeps, FirstCreateKeeps, MakeKeeps};
 ghost use Rattle.replica_invariant.specs.Pushes.{AbortKeeps, BeginKeeps, CommitKeeps, ConfirmKeeps, DecideKeeps, FinishKeeps, IssueKeeps, JoinKeeps, LoseKeeps, PrepareKeeps};
 
-/// A repository that is created for the first time has the invariant, over whatever the nodes have of its
-/// path.
+/// A repository that is created for the first time has the invariant, over whatever the nodes have
+/// of its path.
 pub fn first_create_keeps()
     ensures { FirstCreateKeeps }
 {}
@@ -69,8 +69,8 @@ pub fn issue_keeps()
     ensures { IssueKeeps }
 {}
 
-/// So does a commit that is delivered, also long after its push ended, and whether its answer is kept or
-/// not.
+/// So does a commit that is delivered, also long after its push ended, and whether its answer is
+/// kept or not.
 pub fn commit_keeps()
     ensures { CommitKeeps }
 {}

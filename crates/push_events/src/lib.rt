@@ -1,5 +1,5 @@
-//! Each event by which replicas come on record, and each event of a push, keeps what is always so of a
-//! repository.
+//! Each event by which replicas come on record, and each event of a push, keeps what is always so
+//! of a repository.
 #![tactic(auto)]
 
 mod laws;

@@ -16,10 +16,10 @@ pub fn every_state_has_the_invariant()
     ensures { ReachedKeeps }
 {}
 
-/// A state that has it is safe: a replica that is booked at newest holds exactly that content and no effect
-/// that is still out may change it; no other booking says more than the node holds; only members of the
-/// open push are told to commit, and only the hash that was decided; and between the decision and the
-/// first member that confirms, none is booked at newest.
+/// A state that has it is safe: a replica that is booked at newest holds exactly that content and
+/// no effect that is still out may change it; no other booking says more than the node holds; only
+/// members of the open push are told to commit, and only the hash that was decided; and between the
+/// decision and the first member that confirms, none is booked at newest.
 pub fn the_invariant_is_safe()
     ensures { InvariantIsSafe }
 {}
@@ -40,8 +40,8 @@ pub fn a_booking_never_falls()
     ensures { BookingsGrow }
 {}
 
-/// A read that was routed is answered, however late, with the content of its generation or of a later
-/// one; or the node holds nothing, and the replica is booked absent.
+/// A read that was routed is answered, however late, with the content of its generation or of a
+/// later one; or the node holds nothing, and the replica is booked absent.
 pub fn a_routed_read_is_answered()
     ensures { RoutedReads }
 {}

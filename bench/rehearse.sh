@@ -1,5 +1,6 @@
 #!/bin/sh
-# Measures `praefect rehearse` on a quarter, a half and the whole of a long script, beside `wc -l` on the same file.
+# Measures `praefect rehearse` on a quarter, a half and the whole of a long script, beside `wc -l` on the same file, and
+# beside a program that reads the lines and writes each by itself, with no work between.
 # Build the program first: cd crates/praefect && rt run -- rehearse < stdin
 set -eu
 top=$(cd "$(dirname "$0")/.." && pwd)
@@ -11,7 +12,7 @@ measure() {
     python3 - "$@" <<'PY'
 import os, resource, subprocess, sys
 script, *command = sys.argv[1:]
-with open(script, "rb") as source, open(os.devnull, "wb") as sink:
+with open(script, "rb") as source, open(script + ".out", "wb") as sink:
     subprocess.run(command, stdin=source, stdout=sink, check=True)
 usage = resource.getrusage(resource.RUSAGE_CHILDREN)
 print(f"{usage.ru_utime:8.2f} s user {usage.ru_stime:8.2f} s system {usage.ru_maxrss // 1024:6d} MiB", end="")
@@ -27,6 +28,8 @@ for kind in votes all rounds wide; do
         measure "$script" "$top/crates/praefect/out/praefect" rehearse
         printf '   wc -l:'
         measure "$script" wc -l
+        printf '   a write a line:'
+        LC_ALL=C measure "$script" grep --line-buffered ''
         printf '\n'
     done
 done

@@ -1,11 +1,10 @@
--- What each call on a node does at the place of its repository, and why it may be refused there.
+-- What each call on a node does to the replica of its repository, and why it may be refused there.
 use Rattle.std.specs.Prelude.{◌≡◌, ◌⊎◌, ◌+◌, ◌&&◌, ◌==◌, ℕ, Bool, true, false, not, List, [], ◌∷◌, map, nat_lt, if◌then◌else◌, Option, None, Some}
 use Rattle.std.specs.List.{filter}
-use Rattle.std.specs.Map.{values_of}
 use Rattle.std.specs.Option.{option_or}
 use Rattle.px_base.specs.Hash.{is_zero, same_hash}
 use Rattle.px_base.specs.Object.{GitObject}
-use Rattle.px_base.specs.RefList.{References}
+use Rattle.px_base.specs.RefList.{References, ids_named_by}
 use Rattle.px_base.specs.declared.hash.Hash.{Hash}
 use Rattle.px_base.specs.declared.push.Push.{Push}
 use Rattle.px_base.specs.declared.push.Update.{Update}
@@ -171,12 +170,12 @@ pub record Aborts (lease : ℕ) (place : ReplicaState) (answer : Unit {0}) (then
 abbrev pub ApplyRefuses : ℕ → Snapshot → ReplicaState → NodeRefusal → Type 0
 ApplyRefuses lease snapshot place r = (apply_refusal lease snapshot place ≡ Some r)
     ⊎ ((apply_refusal lease snapshot place ≡ None)
-    × Lacks (with_coming place snapshot.objects) (values_of snapshot.refs) r)
+    × Lacks (with_coming place snapshot.objects) (ids_named_by snapshot.refs) r)
 
 pub record Applies (lease : ℕ) (snapshot : Snapshot) (place : ReplicaState) (answer : Unit {0})
     (then_ : ReplicaState) : Type 0 where
   pub accepted : apply_refusal lease snapshot place ≡ None
-  pub closed : IsClosed (with_coming place snapshot.objects) (values_of snapshot.refs)
+  pub closed : IsClosed (with_coming place snapshot.objects) (ids_named_by snapshot.refs)
   pub is : then_ ≡ applied lease snapshot place
 
 abbrev pub RemoveRefuses : ℕ → ReplicaState → NodeRefusal → Type 0

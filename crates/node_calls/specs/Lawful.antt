@@ -18,7 +18,7 @@ pub record IsLawfulReplica (place : ReplicaState) : Type 0 where
   pub small : AreSmall place.objects
   pub empty : place.held ≡ false → (place.refs ≡ []) × (place.objects ≡ [])
 
--- such a place under each path, and nothing under what is no path
+-- such a replica under each path, and nothing under what is no path
 pub record IsLawful (node : NodeState) : Type 0 where
   pub places : (path : List ℕ) → IsLawfulReplica (node path)
   pub paths : (path : List ℕ) → IsRepoPath path ⊎ (node path ≡ nothing)

@@ -1,8 +1,7 @@
 -- What the calls on a node that only read answer.
 use Rattle.std.specs.Prelude.{◌≡◌, Option}
-use Rattle.std.specs.Map.{values_of}
 use Rattle.px_base.specs.Object.{GitObject}
-use Rattle.px_base.specs.RefList.{References}
+use Rattle.px_base.specs.RefList.{References, ids_named_by}
 use Rattle.px_base.specs.declared.hash.Hash.{Hash}
 use Rattle.objstore.specs.Entries.{object_at}
 use Rattle.objstore.specs.Reached.{AreReached}
@@ -20,4 +19,4 @@ HasObject id place object = object ≡ object_at place.objects id
 -- the references, and the objects that the walk from them takes
 pub record IsSnapshot (place : ReplicaState) (snapshot : Snapshot) : Type 0 where
   pub refs : snapshot.refs ≡ place.refs
-  pub objects : AreReached (object_at place.objects) (values_of place.refs) snapshot.objects
+  pub objects : AreReached (object_at place.objects) (ids_named_by place.refs) snapshot.objects

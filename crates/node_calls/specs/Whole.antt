@@ -1,7 +1,6 @@
 -- What holds of each repository of a node, from the first on and over all that happens.
 use Rattle.std.specs.Prelude.{◌≡◌, ℕ, true, List, IfSome, None}
-use Rattle.std.specs.Map.{values_of}
-use Rattle.px_base.specs.RefList.{IsRefList}
+use Rattle.px_base.specs.RefList.{IsRefList, ids_named_by}
 use Rattle.objstore.specs.Bundle.{bundle_fault, with_objects}
 use Rattle.objstore.specs.Entries.{IsStore, object_at}
 use Rattle.objstore.specs.Reach.{IsClosed}
@@ -18,14 +17,14 @@ pub record IsWholePush (place : ReplicaState) (push : ReadyPush) : Type 0 where
   pub fits : Fits push.updates place.refs
   pub comes : bundle_fault place.objects 0 push.objects ≡ None
   pub closed : IsClosed (object_at (with_objects place.objects push.objects))
-      (values_of (after place.refs push.updates))
+      (ids_named_by (after place.refs push.updates))
 
 -- what holds of a repository: each object stands once, and under its own name; the references are
 -- what a repository may have; all that they lead to is there; and what holds of the push that is ready
 pub record IsWholeReplica (place : ReplicaState) : Type 0 where
   pub store : IsStore place.objects
   pub refs : IsRefList place.refs
-  pub closed : IsClosed (object_at place.objects) (values_of place.refs)
+  pub closed : IsClosed (object_at place.objects) (ids_named_by place.refs)
   pub ready : IfSome place.ready (λ push. IsWholePush place push)
 
 -- it holds of each repository

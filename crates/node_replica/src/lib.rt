@@ -7,4 +7,4 @@ mod refused;
 mod replica;
 
 pub use kept::keep;
-pub use replica::{NotTaken, Ready, Replica};
+pub use replica::{Ready, Replica};

@@ -29,30 +29,10 @@ use node_calls::{NodeError, NodeRefusal, Snapshot};
 use node_rows::{ReplicaRow, add_objects, add_push, add_refs, begun, remove_objects};
 use objstore::{ClosedFault, Put, PutFault, Store, bundle};
 use px_base::{Hash, Lease, Object, ObjectId, Push, RefList, RefName, RepoPath, Update};
-use px_keeper::{Batch, Keeper};
+use px_keeper::{Batch, Keeper, NotTaken};
 use refstore::{Prepared, RefRefusal, Refs};
 use std::alloc::{AllocError, Global};
 use std::marker::Model;
-
-/// Why a row was not taken over.
-#[derive(Clone, Copy, Debug, PartialEq, Eq)]
-pub enum NotTaken {
-    /// A node may not have it, with the rows before it.
-    BadRow,
-    /// Memory wanted.
-    Memory,
-}
-
-impl From<AllocError> for NotTaken {
-    ghost use Rattle.std.specs.Prelude.{◌≡◌};
-    ghost use Rattle.node_replica.specs.declared.replica.NotTaken.TheVariants.{Memory};
-
-    ghost from_gives = { λ _ e. e ≡ Memory };
-
-    fn from(_: AllocError) -> NotTaken {
-        NotTaken::Memory
-    }
-}
 
 /// A push that is ready to be done.
 #[derive(Drop)]

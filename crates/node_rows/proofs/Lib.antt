@@ -2,12 +2,12 @@ pub mod Alike
 pub mod Before
 pub mod FirstBad
 pub mod GoodRows
+pub mod GoodStand
 pub mod KeyLemmas
 pub mod LawfulReplicas
 pub mod ObjectRows
 pub mod OneNode
 pub mod OneRef
-pub mod ReadBytes
 pub mod ReadHeld
 pub mod ReadObject
 pub mod ReadRef

@@ -1,24 +1,25 @@
 -- A repository that is held, and its row of table 6, once that table was read.
 use Rattle.std.proofs.Common.{◌≡◌, ◌<◌, ◌++◌, ℕ, List, [], ◌∷◌, true, false, not, cond, Bool, Option, Some, None, refl, sym, ap, ◌∙◌, subst, ⊎_elim, append_assoc, arith}
-use Rattle.std.specs.Int.{to_be_bytes, w64}
 use Rattle.std.proofs.lemmas.Bool.{and_right, cond-false, cond-true, false≢true, lt-ltb, not_from_true, or_left}
 use Rattle.std.proofs.lemmas.List.{same_from_push}
 use Rattle.std.proofs.lemmas.Option.{same_Some}
 use Rattle.px_base.specs.RepoPath.{IsRepoPath}
+use Rattle.px_fields.specs.Fields.{flag, optional_u64, u64_bytes}
+use Rattle.px_keeper.specs.Reading.{is_read}
 use Rattle.px_keeper.specs.Row.{Rows, row_at, row_key}
 use Rattle.node_rows.specs.BadRow.{IsHeldBy}
 use Rattle.node_calls.specs.ReplicaState.{NodeState, ReplicaState}
-use Rattle.node_rows.specs.Reading.{IsReadTo, is_read}
-use Rattle.node_rows.specs.Rows.{IsRow, flag, is_untouched, last_bytes, replica_bytes, replica_row}
+use Rattle.node_rows.specs.Reading.{IsReadTo}
+use Rattle.node_rows.specs.Rows.{IsRow, is_untouched, replica_bytes, replica_row}
 
 -- the bytes of a row say whether the repository is held
 held_said : (fence other : ℕ) (last least : Option ℕ) (held free : Bool)
     → replica_bytes fence last held ≡ replica_bytes other least free → held ≡ free
 held_said fence other last least held free same = one held free
-    (same_from_push (to_be_bytes w64 fence ++ last_bytes last)
-    (to_be_bytes w64 other ++ last_bytes least) (flag held) (flag free)
-    (append_assoc (to_be_bytes w64 fence) (last_bytes last) (flag held ∷ []) ∙ same
-    ∙ sym (append_assoc (to_be_bytes w64 other) (last_bytes least) (flag free ∷ [])))).1
+    (same_from_push (u64_bytes fence ++ optional_u64 last)
+    (u64_bytes other ++ optional_u64 least) (flag held) (flag free)
+    (append_assoc (u64_bytes fence) (optional_u64 last) (flag held ∷ []) ∙ same
+    ∙ sym (append_assoc (u64_bytes other) (optional_u64 least) (flag free ∷ [])))).1
   where
     one : (a b : Bool) → flag a ≡ flag b → a ≡ b
     one true true is = refl
@@ -33,7 +34,7 @@ module _ (rows : Rows) (table : ℕ) (last : Option (List ℕ)) (node : NodeStat
   row_read = subst (IsRow (row_key 6 path) (replica_row (node path)))
       (cond-true (is_read table last (row_key 6 path)) (row_at rows 6 path) None
       (or_left _ _ (lt-ltb 6 table behind)))
-      (reads.are (row_key 6 path) (omega arith))
+      (reads.has.are (row_key 6 path) (omega arith))
 
   -- where the node holds the repository, the row says so
   pub IsHeldBy-held : (node path).held ≡ true → IsHeldBy rows path
@@ -67,4 +68,4 @@ module _ (rows : Rows) (table : ℕ) (last : Option (List ℕ)) (node : NodeStat
   pub held_path : (node path).held ≡ true → IsRepoPath path
   held_path held = ⊎_elim (λ is. is)
       (λ none. absurd (false≢true (ap (λ (p : ReplicaState). p.held) (sym none) ∙ held)))
-      (reads.lawful.paths path)
+      (reads.has.lawful.paths path)

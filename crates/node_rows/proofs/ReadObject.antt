@@ -103,7 +103,7 @@ module _ (rows : Rows) (last : Option (List ℕ)) (old : NodeState) (key value :
   }
 
   -- a node may have the row, so its object comes
-  ObjectComes-row : (is : IsObjectRow rows key value)
+  pub ObjectComes-row : (is : IsObjectRow rows key value)
       → ObjectComes old key value is.path is.id is.object
   ObjectComes-row is = record {
     parts = is.parts;
@@ -127,10 +127,10 @@ module _ (rows : Rows) (last : Option (List ℕ)) (old : NodeState) (key value :
       (sym (row_of_object old key value path id one comes new changes)))
       (rest_of_object old key value path id one comes new changes)
       (object refl (IsObjectRow-comes path id one comes))
-      (IsLawful-changes old new path place changes reads.lawful
+      (IsLawful-changes old new path place changes reads.has.lawful
       (held_path rows 8 last old reads (omega arith) path comes.held)
-      (IsLawfulReplica-object old key value path id one comes (reads.lawful.places path)))
-      (unready_changes old new path place changes reads.unready (reads.unready path))
+      (IsLawfulReplica-object old key value path id one comes (reads.has.lawful.places path)))
+      (unready_changes old new path place changes reads.has.unready (reads.has.unready path))
 
   -- a row of which no object comes is the first bad one
   pub bad_object : ((path : List ℕ) (id : Hash) (one : GitObject)

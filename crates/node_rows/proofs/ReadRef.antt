@@ -15,7 +15,9 @@ use Rattle.objstore.specs.Entries.{object_at}
 use Rattle.refstore.proofs.Least.{all_among, there_from_among}
 use Rattle.refstore.proofs.Names.{names_laws, one_name}
 use Rattle.refstore.specs.Updates.{is_among}
+use Rattle.px_keeper.proofs.ReadRows.{below_is_read, below_next, found_where}
 use Rattle.px_keeper.specs.Keeper.{IsNext}
+use Rattle.px_keeper.specs.Reading.{is_read, is_up_to, read_so_far}
 use Rattle.px_keeper.specs.Row.{Rows, row_at, row_key}
 use Rattle.px_keeper.specs.declared.row_key.RowKey.{RowKey}
 use Rattle.node_rows.proofs.KeyLemmas.{IsCut-cut, cut-under}
@@ -23,12 +25,12 @@ use Rattle.node_rows.proofs.LawfulReplicas.{IsLawful-changes, unready_changes}
 use Rattle.node_rows.proofs.OneRef.{Fits-creation, IsRefList-created, done, fits_apart, fits_few, fits_some, ref_at-created}
 use Rattle.node_calls.proofs.OptionLemmas.{none_mapped, some_mapped}
 use Rattle.node_rows.proofs.ReadHeld.{IsHeldBy-held, held_by_row, held_path}
-use Rattle.node_rows.proofs.ReadRows.{below_is_read, below_next, first_bad, found_where, next_has_none, read_more, row_exact}
+use Rattle.node_rows.proofs.ReadRows.{first_bad, next_has_none, read_more, row_exact}
 use Rattle.node_rows.proofs.RowLemmas.{IsRow-same, named_or_same}
 use Rattle.node_rows.specs.BadRow.{IsFirstBad, IsGood, IsRefRow, StandsBefore, object, reference, replica}
 use Rattle.node_calls.specs.Lawful.{IsLawfulReplica}
 use Rattle.node_calls.specs.ReplicaState.{Changes, NodeState, ReplicaState}
-use Rattle.node_rows.specs.Reading.{IsReadTo, RefComes, is_read, is_up_to, read_so_far, with_ref}
+use Rattle.node_rows.specs.Reading.{IsReadTo, RefComes, with_ref}
 use Rattle.node_rows.specs.Rows.{cut, ref_row, replica_row, row_of, under}
 
 -- names under one path are in the order of their keys
@@ -115,7 +117,7 @@ module _ (rows : Rows) (last : Option (List ℕ)) (old : NodeState) (key value :
     refs_read other =
         let row : RowKey = row_key 7 (under path other) in
         row_exact row (row_of old row) (read_so_far rows 7 last row)
-        (λ is. absurd (omega arith)) (reads.are row (omega arith))
+        (λ is. absurd (omega arith)) (reads.has.are row (omega arith))
         ∙ ap (ref_row old) (cut-under path other (IsCut-cut key (path, name) parts).none)
 
     -- keys under the path are in the order of their names
@@ -159,7 +161,7 @@ module _ (rows : Rows) (last : Option (List ℕ)) (old : NodeState) (key value :
       → IsRefRow rows key value
   IsRefRow-comes path name id comes =
       let refs : References = (old path).refs in
-      let lawful = (reads.lawful.places path).refs in
+      let lawful = (reads.has.lawful.places path).refs in
       record {
         path = path;
         name = name;
@@ -182,10 +184,10 @@ module _ (rows : Rows) (last : Option (List ℕ)) (old : NodeState) (key value :
       }
 
   -- a node may have the row, so its reference comes
-  RefComes-row : (is : IsRefRow rows key value) → RefComes old key value is.path is.name is.id
+  pub RefComes-row : (is : IsRefRow rows key value) → RefComes old key value is.path is.name is.id
   RefComes-row is =
       let refs : References = (old is.path).refs in
-      let lawful = (reads.lawful.places is.path).refs in
+      let lawful = (reads.has.lawful.places is.path).refs in
       record {
         parts = is.parts;
         held = held_by_row rows 7 last old reads (omega arith) is.path is.held;
@@ -208,16 +210,16 @@ module _ (rows : Rows) (last : Option (List ℕ)) (old : NodeState) (key value :
       → IsReadTo rows 7 (Some key) new
   read_ref new path name id comes changes =
       let place : ReplicaState = with_ref name id (old path) in
-      let lawful : IsLawfulReplica (old path) = reads.lawful.places path in
+      let lawful : IsLawfulReplica (old path) = reads.has.lawful.places path in
       read_more rows 7 last key value next old new reads
       (IsRow-same (row_key 7 key) (row_of new (row_key 7 key)) (Some value)
       (sym (row_of_ref old key value path name id comes lawful new changes)))
       (rest_of_ref old key value path name id comes lawful new changes)
       (reference refl (IsRefRow-comes path name id comes))
-      (IsLawful-changes old new path place changes reads.lawful
+      (IsLawful-changes old new path place changes reads.has.lawful
       (held_path rows 7 last old reads (omega arith) path comes.held)
       (IsLawfulReplica-ref old key value path name id comes lawful))
-      (unready_changes old new path place changes reads.unready (reads.unready path))
+      (unready_changes old new path place changes reads.has.unready (reads.has.unready path))
 
   -- a row of which no reference comes is the first bad one
   pub bad_ref : ((path name : List ℕ) (id : Hash) → ¬ (RefComes old key value path name id))

@@ -55,7 +55,7 @@ module _ (rows : Rows) (last : Option (List ℕ)) (old : NodeState) (key value :
   -- so it had nothing
   nothing_there : ((old key).refs ≡ []) × ((old key).objects ≡ [])
   nothing_there =
-      (reads.lawful.places key).empty (not-true (old key).held (and_parts _ _ untouched).1)
+      (reads.has.lawful.places key).empty (not-true (old key).held (and_parts _ _ untouched).1)
 
   -- and then it has what the row says
   pub read_replica : (new : NodeState) (is : IsReplicaRow key value)
@@ -70,9 +70,9 @@ module _ (rows : Rows) (last : Option (List ℕ)) (old : NodeState) (key value :
       (λ id. inr (ap (λ (p : ReplicaState). object_at p.objects id) changes.here
       ∙ sym (ap (λ (s : Entries). object_at s id) nothing_there.1))))
       (replica refl is)
-      (IsLawful-changes old new key (said is.fence is.last is.held) changes reads.lawful is.lawful
+      (IsLawful-changes old new key (said is.fence is.last is.held) changes reads.has.lawful is.lawful
       (IsLawfulReplica-said is.fence is.last is.held is.fence_fits is.last_fits))
-      (unready_changes old new key (said is.fence is.last is.held) changes reads.unready refl)
+      (unready_changes old new key (said is.fence is.last is.held) changes reads.has.unready refl)
 
   -- a row that tells of no repository is the first bad one
   pub bad_replica : ¬ (IsReplicaRow key value) → IsFirstBad rows (row_key 6 key)

@@ -3,9 +3,9 @@ use Rattle.std.proofs.Common.{◌≡◌, ◌≢◌, ◌==◌, ℕ, List, [], ◌
 use Rattle.std.specs.FinMap.{get}
 use Rattle.std.specs.List.{AllByRecursion}
 use Rattle.std.specs.Option.{option_map}
-use Rattle.std.proofs.lemmas.Bool.{cases_Bool, cond-true, cond-false, eqb-true}
+use Rattle.std.proofs.lemmas.Bool.{cond-true, cond-false, eqb-true}
 use Rattle.px_base.specs.Object.{GitObject}
-use Rattle.px_base.specs.RefList.{is_name, ref_at}
+use Rattle.px_base.specs.RefList.{ref_at}
 use Rattle.px_base.specs.RepoPath.{IsRepoPath}
 use Rattle.px_base.specs.declared.hash.Hash.{Hash}
 use Rattle.objstore.specs.Entries.{object_at, own_name}
@@ -19,7 +19,6 @@ use Rattle.node_calls.proofs.ReplicaLemmas.{this_or_other}
 use Rattle.node_calls.specs.ReplicaState.{NodeState, ReplicaState}
 use Rattle.node_rows.specs.Rows.{IsRow, StandFor, cut, is_untouched, object_bytes, object_row, ref_row, replica_bytes, replica_row, row_of, under}
 use Rattle.node_rows.specs.Writes.{object_change, object_gone, ref_change, replica_change}
-use Rattle.refstore.proofs.Names.{one_name, names_laws}
 
 -- ---- changes that say what a node has
 

@@ -2,7 +2,6 @@
 -- and by those before it, in the order of tables and keys: of rows that contradict each other, the
 -- last one is bad.
 use Rattle.std.specs.Prelude.{◌≡◌, ◌<◌, ◌-◌, ◌^◌, ℕ, Bool, true, false, List, length, IfSome, IsSome, Option, Some}
-use Rattle.std.specs.FinMap.{get}
 use Rattle.std.specs.List.{AllByRecursion}
 use Rattle.std.specs.List.Sorted.{IsStrictlySortedBy}
 use Rattle.std.specs.declared.cmp.Ordering.TheVariants.{Less}
@@ -13,7 +12,8 @@ use Rattle.px_base.specs.RefName.{IsRefName}
 use Rattle.px_base.specs.RepoPath.{IsRepoPath}
 use Rattle.px_base.specs.declared.hash.Hash.{Hash}
 use Rattle.objstore.specs.Entries.{IsNamed}
-use Rattle.px_keeper.specs.Row.{Rows, row_at, row_cmp}
+use Rattle.px_keeper.specs.FirstBad.{AllGood, FirstBad}
+use Rattle.px_keeper.specs.Row.{Rows, row_at}
 use Rattle.px_keeper.specs.declared.row_key.RowKey.{RowKey}
 use Rattle.node_rows.specs.Rows.{cut, object_bytes, replica_bytes, under}
 
@@ -81,13 +81,8 @@ pub data IsGood (rows : Rows) (row : RowKey) (value : List ℕ) : Type 0 where
 
 -- a node may have each of the rows
 abbrev pub AreGood : Rows → Type 0
-AreGood rows = (row : RowKey) (value : List ℕ) → row.table < 256 → get rows row ≡ Some value
-    → IsGood rows row value
+AreGood = AllGood IsGood
 
 -- the row is there and is bad, and each row before it is good
-pub record IsFirstBad (rows : Rows) (row : RowKey) : Type 0 where
-  pub value : List ℕ
-  pub there : get rows row ≡ Some value
-  pub bad : ¬ (IsGood rows row value)
-  pub first : (other : RowKey) (found : List ℕ) → row_cmp other row ≡ Less
-      → get rows other ≡ Some found → IsGood rows other found
+abbrev pub IsFirstBad : Rows → RowKey → Type 0
+IsFirstBad = FirstBad IsGood

@@ -1,16 +1,13 @@
--- Rows that are read one after the other, in the order of tables and keys, and what a node comes to
--- have by them.
-use Rattle.std.specs.Prelude.{◌≡◌, ◌==◌, ◌&&◌, ◌||◌, ℕ, Bool, true, false, not, nat_lt, List, [], ◌∷◌, if◌then◌else◌, Option, None, Some}
-use Rattle.std.specs.FinMap.{get}
-use Rattle.std.specs.Ordering.{is_gt}
+-- What a node comes to have by rows that are read one after the other.
+use Rattle.std.specs.Prelude.{◌≡◌, ℕ, Bool, true, List, [], ◌∷◌, Option, None, Some}
 use Rattle.px_base.specs.Hash.{IsHash}
 use Rattle.px_base.specs.Object.{GitObject, IsSmall}
-use Rattle.px_base.specs.RefList.{name_cmp}
 use Rattle.px_base.specs.RefName.{IsRefName}
 use Rattle.px_base.specs.declared.hash.Hash.{Hash}
 use Rattle.objstore.specs.Bundle.{with_object}
 use Rattle.objstore.specs.Entries.{IsNamed, object_at}
 use Rattle.refstore.specs.Updates.{Fits, after, creation}
+use Rattle.px_keeper.specs.Reading.{ReadTo}
 use Rattle.px_keeper.specs.Row.{Rows}
 use Rattle.px_keeper.specs.declared.row_key.RowKey.{RowKey}
 use Rattle.node_rows.specs.BadRow.{IsGood}
@@ -51,25 +48,12 @@ with_one object place = record place { objects = with_object place.objects objec
 
 -- ---- all rows up to a place
 
--- the key is the one that was read last, or stands before it
-abbrev pub is_up_to : Option (List ℕ) → List ℕ → Bool
-is_up_to None key = false
-is_up_to (Some last) key = not (is_gt (name_cmp key last))
+-- what stands at rows is that of the node, which is lawful and has no push that is ready
+pub record HasRows (node : NodeState) (values : RowKey → Option (List ℕ)) : Type 0 where
+  pub are : AreRowsOf node values
+  pub lawful : IsLawful node
+  pub unready : (path : List ℕ) → (node path).ready ≡ None
 
--- the row is one of an earlier table, or one of this table up to the key that was read last
-abbrev pub is_read : ℕ → Option (List ℕ) → RowKey → Bool
-is_read table last row = nat_lt row.table table || ((row.table == table) && is_up_to last row.key)
-
--- what stands at the rows that were read
-abbrev pub read_so_far : Rows → ℕ → Option (List ℕ) → RowKey → Option (List ℕ)
-read_so_far rows table last row = if is_read table last row then get rows row else None
-
--- the rows that were read are good, and they are those of the node, which is lawful and has no push
--- that is ready
-pub record IsReadTo (rows : Rows) (table : ℕ) (last : Option (List ℕ)) (node : NodeState) : Type 0
-  where
-    pub good : (row : RowKey) (value : List ℕ) → is_read table last row ≡ true
-        → get rows row ≡ Some value → IsGood rows row value
-    pub are : AreRowsOf node (read_so_far rows table last)
-    pub lawful : IsLawful node
-    pub unready : (path : List ℕ) → (node path).ready ≡ None
+-- the rows that were read are good, and they are those of the node
+abbrev pub IsReadTo : Rows → ℕ → Option (List ℕ) → NodeState → Type 0
+IsReadTo rows table last node = ReadTo IsGood (HasRows node) rows table last

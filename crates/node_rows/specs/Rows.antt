@@ -1,13 +1,11 @@
 -- The rows that stand for a node.
-use Rattle.std.specs.Prelude.{◌≡◌, ◌<◌, ◌&&◌, ◌++◌, ◌==◌, ℕ, Bool, true, false, not, List, [], ◌∷◌, if◌then◌else◌, is_none, IfSome, MatchOption, Option, None, Some}
+use Rattle.std.specs.Prelude.{◌≡◌, ◌<◌, ◌&&◌, ◌++◌, ◌==◌, ℕ, Bool, false, not, List, [], ◌∷◌, if◌then◌else◌, is_none, IfSome, MatchOption, Option, None, Some}
 use Rattle.std.specs.FinMap.{get}
 use Rattle.std.specs.Option.{option_map}
-use Rattle.std.specs.Int.{to_be_bytes, w64}
 use Rattle.px_base.specs.Object.{GitObject}
 use Rattle.px_base.specs.RefList.{ref_at}
 use Rattle.px_base.specs.RepoPath.{IsRepoPath}
-use Rattle.px_base.specs.declared.kind.Kind.{Kind}
-use Rattle.px_base.specs.declared.kind.Kind.TheVariants.{Commit, Tree, Blob, Tag}
+use Rattle.px_fields.specs.Fields.{flag, kind_code, optional_u64, u64_bytes}
 use Rattle.objstore.specs.Entries.{object_at}
 use Rattle.px_keeper.specs.Row.{Rows}
 use Rattle.px_keeper.specs.declared.row_key.RowKey.{RowKey}
@@ -15,16 +13,8 @@ use Rattle.node_calls.specs.ReplicaState.{NodeState, ReplicaState}
 
 -- ---- table 6: the fence, the last lease and whether it is held, under the path
 
-abbrev pub flag : Bool → ℕ
-flag true = 1
-flag false = 0
-
-abbrev pub last_bytes : Option ℕ → List ℕ
-last_bytes None = 0 ∷ to_be_bytes w64 0
-last_bytes (Some lease) = 1 ∷ to_be_bytes w64 lease
-
 abbrev pub replica_bytes : ℕ → Option ℕ → Bool → List ℕ
-replica_bytes fence last held = to_be_bytes w64 fence ++ last_bytes last ++ flag held ∷ []
+replica_bytes fence last held = u64_bytes fence ++ optional_u64 last ++ flag held ∷ []
 
 -- nothing was ever done there
 abbrev pub is_untouched : ReplicaState → Bool
@@ -49,12 +39,6 @@ cut (b ∷ key) =
 abbrev pub ref_row : NodeState → Option (List ℕ × List ℕ) → Option (List ℕ)
 ref_row node None = None
 ref_row node (Some parts) = option_map (λ id. id.0) (ref_at (node parts.0).refs parts.1)
-
-abbrev pub kind_code : Kind → ℕ
-kind_code Commit = 1
-kind_code Tree = 2
-kind_code Blob = 3
-kind_code Tag = 4
 
 abbrev pub object_bytes : GitObject → List ℕ
 object_bytes object = kind_code object.kind ∷ object.content

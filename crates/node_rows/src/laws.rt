@@ -24,6 +24,12 @@ pub fn rows_of_a_node_are_good()
         → StandFor rows node → row.table < 256 → ¬ (IsFirstBad rows row) }
 {}
 
+/// Rows that are all good stand for a node, which has what a node may have.
+pub fn good_rows_stand_for_a_node()
+    ensures { (rows : Rows) → AreGood rows
+        → (node : NodeState) × IsLawful node × StandFor rows node }
+{}
+
 /// At most one row is the first bad one.
 pub fn one_row_is_the_first_bad_one()
     ensures { (rows : Rows) (row other : RowKey) → IsFirstBad rows row → IsFirstBad rows other

@@ -1,14 +1,13 @@
 //! What rows say.
 
-ghost use Rattle.std.specs.Prelude.{◌≡◌, ◌≢◌, ◌<◌, ◌-◌, ◌^◌, ◌++◌, ◌∷◌, ℕ, Bool, List, length, IfNone, IfOk, IfSome, Option};
-ghost use Rattle.std.specs.Int.{to_be_bytes, w64};
+ghost use Rattle.std.specs.Prelude.{◌≡◌, ◌≢◌, ◌<◌, ◌-◌, ◌^◌, ℕ, Bool, length, IfNone, IfOk, IfSome, Option};
 ghost use Rattle.std.specs.Option.{option_map};
-ghost use Rattle.node_rows.specs.Rows.{cut, flag, kind_code, last_bytes, object_bytes, replica_bytes};
+ghost use Rattle.node_rows.specs.Rows.{cut, object_bytes, replica_bytes};
 ghost use Rattle.px_base.specs.Hash.{IsHash};
 ghost use Rattle.px_base.specs.Object.{GitObject, IsSmall};
-ghost use Rattle.px_base.specs.declared.kind.Kind.{Kind};
 
-use px_base::{Bytes, Hash, Kind, Lease, MAX_CONTENT_BYTES, Object, ObjectId};
+use px_base::{Bytes, Lease, MAX_CONTENT_BYTES, Object, ObjectId};
+use px_fields::{flag_at, id_at, kind_at, optional_lease_at, u64_at};
 use std::alloc::{AllocError, Global};
 
 /// What the row of a repository says.
@@ -22,54 +21,6 @@ pub struct ReplicaRow {
     pub held: bool,
 }
 
-// The number that the first eight bytes are, and what stands behind them.
-fn number_at(bytes: &[u8]) -> Option<(u64, &[u8])>
-    ensures some { IfSome result (λ read. bytes.now ≡ to_be_bytes w64 read.0 ++ read.1.now) }
-    ensures none { IfNone result (length bytes.now < 8) }
-{
-    match bytes.split_first_chunk::<8>() {
-        Some((front, rest)) => Some((u64::from_be_bytes(*front), rest)),
-        None => None,
-    }
-}
-
-// The flag that the first byte is, and what stands behind it.
-fn flag_at(bytes: &[u8]) -> Option<(bool, &[u8])>
-    ensures some { IfSome result (λ read. bytes.now ≡ flag read.0 ∷ read.1.now) }
-    ensures none { IfNone result ((set : Bool) (rest : List ℕ) → bytes.now ≢ flag set ∷ rest) }
-{
-    match bytes {
-        [0, rest @ ..] => Some((false, rest)),
-        [1, rest @ ..] => Some((true, rest)),
-        _ => None,
-    }
-}
-
-// The last lease that the first nine bytes are, and what stands behind them.
-fn last_at(bytes: &[u8]) -> Option<(Option<Lease>, &[u8])>
-    ensures some { IfSome result (λ read. bytes.now ≡ last_bytes read.0 ++ read.1.now) }
-    ensures fits { IfSome result (λ read. IfSome read.0 (λ lease. lease < 2 ^ 64 - 1)) }
-    ensures none { IfNone result ((last : Option ℕ) (rest : List ℕ)
-        → IfSome last (λ lease. lease < 2 ^ 64 - 1) → bytes.now ≢ last_bytes last ++ rest) }
-{
-    let Some((is_some, rest)) = flag_at(bytes) else {
-        return None;
-    };
-    let Some((number, rest)) = number_at(rest) else {
-        return None;
-    };
-    if !is_some {
-        if number != 0 {
-            return None;
-        }
-        return Some((None, rest));
-    }
-    match Lease::new(number) {
-        Some(lease) => Some((Some(lease), rest)),
-        None => None,
-    }
-}
-
 /// What the value of a row of table 6 says, or `None` where it is no such value: 8 bytes of the
 /// fence, a flag and 8 bytes of the last lease, and a flag, numbers with the highest byte first,
 /// flags 0 or 1. The lease is 0 where its flag is, and never 2^64 - 1.
@@ -80,10 +31,10 @@ pub fn read_replica(value: &[u8]) -> Option<ReplicaRow>
     ensures none { IfNone result ((fence : ℕ) (last : Option ℕ) (held : Bool) → fence < 2 ^ 64
         → IfSome last (λ lease. lease < 2 ^ 64 - 1) → value.now ≢ replica_bytes fence last held) }
 {
-    let Some((fence, rest)) = number_at(value) else {
+    let Some((fence, rest)) = u64_at(value) else {
         return None;
     };
-    let Some((last, rest)) = last_at(rest) else {
+    let Some((last, rest)) = optional_lease_at(rest) else {
         return None;
     };
     let Some((held, rest)) = flag_at(rest) else {
@@ -112,27 +63,13 @@ pub fn read_id(value: &[u8]) -> Option<ObjectId>
     ensures id { IfSome result (λ id. (value.now ≡ id.0) × IsHash id) }
     ensures none { IfNone result (length value.now ≢ 20) }
 {
-    if value.len() != 20 {
+    let Some((id, rest)) = id_at(value) else {
+        return None;
+    };
+    if !rest.is_empty() {
         return None;
     }
-    match value.first_chunk::<20>() {
-        Some(id) => Some(Hash(*id)),
-        None => None,
-    }
-}
-
-// The kind of that code.
-fn kind_of(code: u8) -> Option<Kind>
-    ensures some { IfSome result (λ kind. code ≡ kind_code kind) }
-    ensures none { IfNone result ((kind : Kind) → code ≢ kind_code kind) }
-{
-    match code {
-        1 => Some(Kind::Commit),
-        2 => Some(Kind::Tree),
-        3 => Some(Kind::Blob),
-        4 => Some(Kind::Tag),
-        _ => None,
-    }
+    Some(id)
 }
 
 /// The object that the value of a row of table 8 is, or `None` where it is none: a byte for the
@@ -143,10 +80,7 @@ pub fn read_object(alloc: Global, value: &[u8]) -> Result<Option<Object>, AllocE
     ensures none { IfOk result (λ read. IfNone read ((object : GitObject)
         → IsSmall object.content → value.now ≢ object_bytes object)) }
 {
-    let Some((code, content)) = value.split_first() else {
-        return Ok(None);
-    };
-    let Some(kind) = kind_of(*code) else {
+    let Some((kind, content)) = kind_at(value) else {
         return Ok(None);
     };
     if content.len() > MAX_CONTENT_BYTES {

@@ -2,13 +2,14 @@
 
 ghost use Rattle.std.specs.Prelude.{◌≡◌, ◌∷◌, ◌++◌, [], Some, None, IfOk, OnOk};
 ghost use Rattle.std.specs.Map.{keys_of};
-ghost use Rattle.node_rows.specs.Rows.{flag, kind_code, under};
+ghost use Rattle.node_rows.specs.Rows.{under};
 ghost use Rattle.node_rows.specs.Writes.{coming_changes, object_change, objects_gone, ref_change, refs_changes, gone_changes, put_changes, names, replica_change, update_changes};
 ghost use Rattle.px_base.specs.RefList.{ref_at};
 ghost use Rattle.px_base.specs.RepoPath.{IsRepoPath};
 
 use objstore::Store;
-use px_base::{Bytes, Kind, Lease, Object, ObjectId, Push, RefName, RepoPath, Update};
+use px_base::{Bytes, Lease, Object, ObjectId, Push, RefName, RepoPath, Update};
+use px_fields::{add_flag, add_kind, add_optional_u64, add_u64};
 use px_keeper::Batch;
 use refstore::Refs;
 use std::alloc::{AllocError, Global};
@@ -21,23 +22,6 @@ const REFS: u8 = 7;
 
 /// The table of objects, by path and id.
 const OBJECTS: u8 = 8;
-
-fn flag(set: bool) -> u8
-    ensures { result ≡ flag set }
-{
-    if set { 1 } else { 0 }
-}
-
-fn code_of(kind: Kind) -> u8
-    ensures { result ≡ kind_code kind }
-{
-    match kind {
-        Kind::Commit => 1,
-        Kind::Tree => 2,
-        Kind::Blob => 3,
-        Kind::Tag => 4,
-    }
-}
 
 // The path, a NUL and what is named there.
 fn key_of(alloc: Global, repo: &RepoPath, rest: &[u8]) -> Result<Bytes, AllocError>
@@ -61,14 +45,14 @@ pub fn begun(
     ensures batch { IfOk result (λ batch. batch ≡ replica_change repo.now fence last held ∷ []) }
     ensures path { OnOk result (IsRepoPath repo.now) }
 {
-    let mut value = Bytes::from_slice(alloc, &fence.to_be_bytes())?;
-    value.push(flag(last.is_some()))?;
     let last = match last {
-        Some(lease) => lease.number(),
-        None => 0,
+        Some(lease) => Some(lease.number()),
+        None => None,
     };
-    value.extend_from_slice(&last.to_be_bytes())?;
-    value.push(flag(held))?;
+    let mut value = Bytes::new(alloc);
+    add_u64(&mut value, fence)?;
+    add_optional_u64(&mut value, last)?;
+    add_flag(&mut value, held)?;
     let mut batch = Batch::new(alloc);
     batch.put(alloc, REPLICAS, repo.as_bytes(), value.as_slice())?;
     Ok(batch)
@@ -111,7 +95,7 @@ fn put_object(
     let id = objstore::name_of(object.kind(), object.content());
     let key = key_of(alloc, repo, &id.0)?;
     let mut value = Bytes::new(alloc);
-    value.push(code_of(object.kind()))?;
+    add_kind(&mut value, object.kind())?;
     value.extend_from_slice(object.content())?;
     batch.put(alloc, OBJECTS, key.as_slice(), value.as_slice())
 }

@@ -4,7 +4,7 @@ pub mod BundleLemmas
 pub mod Changed
 pub mod Comes
 pub mod EntriesLemmas
-mod FirstLemmas
+pub mod FirstLemmas
 pub mod Ids
 pub mod Places
 mod PutLemmas

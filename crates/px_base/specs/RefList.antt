@@ -3,7 +3,7 @@ use Rattle.std.specs.Prelude.{◌≡◌, ℕ, ◌≤◌, ◌∷◌, ◌++◌, []
 use Rattle.std.specs.Cmp.Lexicographic.{slice_cmp}
 use Rattle.std.specs.List.{starts_with}
 use Rattle.std.specs.List.Sorted.{IsStrictlySortedBy}
-use Rattle.std.specs.Map.{keys_of, lookup}
+use Rattle.std.specs.Map.{keys_of, lookup, values_of}
 use Rattle.std.specs.Ordering.{eq_by_cmp, nat_cmp}
 use Rattle.std.specs.declared.cmp.Ordering.{Ordering}
 use Rattle.px_base.specs.Hash.{is_zero}
@@ -26,6 +26,10 @@ is_name = eq_by_cmp name_cmp
 abbrev pub ref_at : References → List ℕ → Option Hash
 ref_at refs name = lookup (is_name name) refs
 
+-- the ids that references name, in the order of the names: where what they lead to begins
+abbrev pub ids_named_by : References → List Hash
+ids_named_by refs = values_of refs
+
 -- the name begins with the other one and a slash; as no name ends with a slash, more follows
 abbrev pub is_under : List ℕ → List ℕ → Bool
 is_under name other = starts_with nat_eq name (other ++ 47 ∷ [])
@@ -47,3 +51,7 @@ pub record IsRefList (refs : References) : Type 0 where
   pub apart : (name other : List ℕ) → IsSome (ref_at refs name) → IsSome (ref_at refs other)
       → is_in_conflict name other ≡ false
   pub few : length refs ≤ 32768
+
+-- they are as many as a repository may have
+abbrev pub HasMost : References → Type 0
+HasMost refs = length refs ≡ 32768

@@ -76,6 +76,13 @@ impl<T> Items<T> {
 }
 
 impl<T: Drop> Items<T> {
+    /// Drops all items, and keeps their room for those that come.
+    pub fn clear(&mut self)
+        ensures { self.new ≡ [] }
+    {
+        self.items.clear();
+    }
+
     /// Adds a value at the end. Where memory wants, the value is dropped and the list stays.
     pub fn push(&mut self, value: T) -> Result<(), AllocError>
         ensures ok { OnOk result (self.new ≡ self.old ++ value ∷ []) }

@@ -2,6 +2,7 @@
 //! go out by.
 #![tactic(auto)]
 
+mod failing;
 mod hash;
 mod ids;
 mod items;
@@ -23,8 +24,9 @@ mod storage_name;
 mod voter;
 mod words;
 
+pub use failing::FailingCalls;
 pub use hash::{Hash, ObjectId, a_hash_and_its_text_are_one, is_hex_digit};
-pub use ids::TxId;
+pub use ids::{Gen, JobId, RepoId, StorageId, TxId};
 pub use items::{Bytes, Ids, Items};
 pub use kind::Kind;
 pub use lease::Lease;

@@ -8,13 +8,13 @@ use std::alloc::Global;
 
 const LF: u8 = b'\n';
 
-/// What reading a line came to, where the caller has to know whether its line feed came.
-#[derive(Drop)]
+/// What reading a line into a buffer came to, where the caller has to know whether its line feed came.
+#[derive(Clone, Copy, Debug, PartialEq, Eq)]
 pub enum Piece {
     /// A line, whose line feed came and is not in it.
-    Line(Bytes),
+    Line,
     /// The last line, which has a byte and no line feed.
-    Last(Bytes),
+    Last,
     /// Nothing was left.
     End,
     /// One byte more than may stand in a line came, with no line feed among them.
@@ -40,13 +40,13 @@ pub enum LineEnd {
     Memory,
 }
 
-/// Reads a line of at most `max` bytes beside its line feed, a byte at a time: no byte behind the line is taken. The
-/// bytes that were read are spent, whatever comes.
-pub fn read_piece<S: Source>(alloc: Global, source: &mut S, max: usize) -> Piece
-    ensures bytes { PieceGives max (S.left source.old) (S.left source.new) result }
+/// Reads a line of at most `max` bytes beside its line feed into a buffer, in place of what was there: a byte at a time, so
+/// that no byte behind the line is taken. The bytes that were read are spent, whatever comes.
+pub fn read_piece<S: Source>(source: &mut S, max: usize, bytes: &mut Bytes) -> Piece
+    ensures bytes { PieceGives max (S.left source.old) (S.left source.new) bytes.new result }
     ensures cause { PieceHasCause (S.read_faults source.old) (S.read_faults source.new) result }
 {
-    let mut bytes = Bytes::new(alloc);
+    bytes.clear();
     loop {
         let mut byte = [0u8; 1];
         match source.read(&mut byte) {
@@ -55,13 +55,13 @@ pub fn read_piece<S: Source>(alloc: Global, source: &mut S, max: usize) -> Piece
                 if bytes.is_empty() {
                     return Piece::End;
                 }
-                return Piece::Last(bytes);
+                return Piece::Last;
             }
             ReadEnd::Failed => return Piece::ReadFault,
         }
         let [next] = byte;
         if next == LF {
-            return Piece::Line(bytes);
+            return Piece::Line;
         }
         if bytes.len() >= max {
             return Piece::TooLong;
@@ -77,9 +77,9 @@ pub fn line<S: Source>(alloc: Global, source: &mut S, max: usize) -> LineEnd
     ensures bytes { LineGives max (S.left source.old) (S.left source.new) result }
     ensures cause { LineHasCause (S.read_faults source.old) (S.read_faults source.new) result }
 {
-    match read_piece(alloc, source, max) {
-        Piece::Line(bytes) => LineEnd::Line(bytes),
-        Piece::Last(bytes) => LineEnd::Line(bytes),
+    let mut bytes = Bytes::new(alloc);
+    match read_piece(source, max, &mut bytes) {
+        Piece::Line | Piece::Last => LineEnd::Line(bytes),
         Piece::End => LineEnd::End,
         Piece::TooLong => LineEnd::TooLong,
         Piece::ReadFault => LineEnd::ReadFault,

@@ -1,28 +1,19 @@
 //! Streams in memory, which tell their bytes, and fail at chosen calls.
 
-ghost use Rattle.std.specs.Prelude.{◌-◌, [], ◌≡◌, ◌≤◌, ◌<◌, ◌↔◌, length, drop, Some, Contains, IsTrue, vec_len};
-ghost use Rattle.px_base.specs.Causes.{one_more};
-ghost use Rattle.px_base.specs.Memory.{CountsCall};
+ghost use Rattle.std.specs.Prelude.{◌-◌, ◌+◌, [], ◌≡◌, ◌≤◌, ◌<◌, ◌↔◌, ◌⊎◌, length, drop, Some, vec_len, vec_capacity};
+ghost use Rattle.px_base.specs.Memory.{CountsNext, NextFails, TakesAll, uncalled};
 ghost use Rattle.px_base.specs.Sink.{WriteTakes, WriteHasCause};
 ghost use Rattle.px_base.specs.Source.{ReadGives, ReadHasCause};
 
-use crate::{ReadEnd, Sink, Source, WriteEnd};
+use crate::{FailingCalls, ReadEnd, Sink, Source, WriteEnd};
 use std::alloc::Global;
-
-// Whether the call of this number is one of those that fail.
-fn is_listed(failing: &[u64], call: u64) -> bool
-    ensures { IsTrue result ↔ Contains failing.now call }
-{
-    failing.contains(&call)
-}
 
 /// A source over bytes in memory. The calls whose numbers are listed fail; the first call has the number 1.
 #[derive(Drop)]
 pub struct MemSource {
     bytes: Vec<u8>,
     at: usize,
-    failing: Vec<u64>,
-    calls: u64,
+    calls: FailingCalls,
     faults: u64,
     ghost in_range: { at ≤ vec_len bytes },
 }
@@ -32,14 +23,12 @@ impl MemSource {
     pub fn new(bytes: Vec<u8>, failing: Vec<u64>) -> Self
         ensures left { ⟦<MemSource as Source>⟧.left result ≡ Some bytes.items }
         ensures faults { ⟦<MemSource as Source>⟧.read_faults result ≡ 0 }
-        ensures calls { result.calls ≡ 0 }
-        ensures failing { result.failing.items ≡ failing.items }
+        ensures calls { result.calls ≡ uncalled failing.items }
     {
         MemSource {
             bytes,
             at: 0,
-            failing,
-            calls: 0,
+            calls: FailingCalls::new(failing),
             faults: 0,
         }
     }
@@ -55,13 +44,10 @@ impl Source for MemSource {
         ensures bytes { ReadGives (Some (drop self.old.at self.old.bytes.items))
             (Some (drop self.new.at self.new.bytes.items)) buf.new result }
         ensures cause { ReadHasCause self.old.faults self.new.faults result }
-        ensures fails { (result ≡ ReadEnd.Failed)
-            ↔ Contains self.old.failing.items (one_more self.old.calls) }
-        ensures calls { CountsCall self.old.calls self.new.calls
-            self.old.failing.items self.new.failing.items }
+        ensures fails { (result ≡ ReadEnd.Failed) ↔ NextFails self.old.calls }
+        ensures calls { CountsNext self.old.calls self.new.calls }
     {
-        self.calls = self.calls.saturating_add(1);
-        if is_listed(&self.failing, self.calls) {
+        if self.calls.next_fails() {
             self.faults = self.faults.saturating_add(1);
             return ReadEnd::Failed;
         }
@@ -84,8 +70,7 @@ impl Source for MemSource {
 #[derive(Drop)]
 pub struct MemSink {
     bytes: Vec<u8>,
-    failing: Vec<u64>,
-    calls: u64,
+    calls: FailingCalls,
     faults: u64,
 }
 
@@ -94,13 +79,11 @@ impl MemSink {
     pub fn new(alloc: Global, failing: Vec<u64>) -> Self
         ensures taken { ⟦<MemSink as Sink>⟧.taken result ≡ Some [] }
         ensures faults { ⟦<MemSink as Sink>⟧.write_faults result ≡ 0 }
-        ensures calls { result.calls ≡ 0 }
-        ensures failing { result.failing.items ≡ failing.items }
+        ensures calls { result.calls ≡ uncalled failing.items }
     {
         MemSink {
             bytes: Vec::new(alloc),
-            failing,
-            calls: 0,
+            calls: FailingCalls::new(failing),
             faults: 0,
         }
     }
@@ -123,13 +106,14 @@ impl Sink for MemSink {
         ensures bytes { WriteTakes (Some self.old.bytes.items)
             (Some self.new.bytes.items) bytes.now result }
         ensures cause { WriteHasCause self.old.faults self.new.faults result }
-        ensures fails { Contains self.old.failing.items (one_more self.old.calls)
-            → result ≡ WriteEnd.Failed }
-        ensures calls { CountsCall self.old.calls self.new.calls
-            self.old.failing.items self.new.failing.items }
+        ensures all { TakesAll bytes.now result }
+        ensures fails { NextFails self.old.calls → result ≡ WriteEnd.Failed }
+        // A call that is not listed fails only where the bytes found no room.
+        ensures full { result ≡ WriteEnd.Failed → NextFails self.old.calls
+            ⊎ (vec_capacity self.old.bytes < vec_len self.old.bytes + length bytes.now) }
+        ensures calls { CountsNext self.old.calls self.new.calls }
     {
-        self.calls = self.calls.saturating_add(1);
-        if is_listed(&self.failing, self.calls) || self.bytes.extend_from_slice(bytes).is_err() {
+        if self.calls.next_fails() || self.bytes.extend_from_slice(bytes).is_err() {
             self.faults = self.faults.saturating_add(1);
             return WriteEnd::Failed;
         }

@@ -2,7 +2,7 @@
 
 ghost use Rattle.std.specs.Prelude.{◌≡◌, ◌↔◌, [], ◌∷◌, ◌++◌, length, slice_get, IsTrue, OnOk, OnErr};
 ghost use Rattle.std.specs.Option.{option_copied};
-ghost use Rattle.px_base.specs.RefList.{IsRefList};
+ghost use Rattle.px_base.specs.RefList.{HasMost, IsRefList};
 
 use crate::{Items, ObjectId, RefName};
 use std::alloc::{AllocError, Global};
@@ -61,6 +61,13 @@ impl RefList {
         ensures { IsTrue result ↔ (self.now ≡ []) }
     {
         self.pairs.is_empty()
+    }
+
+    /// Whether no further reference fits.
+    pub fn is_full(&self) -> bool
+        ensures { IsTrue result ↔ HasMost self.now }
+    {
+        self.pairs.len() >= MAX_REFS
     }
 
     /// The reference at a place, from 0, or `None` past the end.

@@ -1,6 +1,8 @@
-//! Sources and sinks over std's readers and writers, as the streams of a process. They tell nothing of the bytes.
+//! Sources and sinks over std's readers and writers, as the streams of a process. They tell of the bytes what the
+//! reader or writer tells: one in memory tells all, and those of a process nothing.
 
-ghost use Rattle.std.specs.Prelude.{None, ◌≡◌, IfOk};
+ghost use Rattle.std.specs.Prelude.{◌≡◌, IfOk};
+ghost use Rattle.std.specs.Io.Buffered.{reader_remaining};
 
 use crate::{ReadEnd, Sink, Source, WriteEnd};
 use std::alloc::Global;
@@ -16,7 +18,9 @@ pub struct StdSource<R: Read + Drop> {
 impl<R: Read + Drop> StdSource<R> {
     /// Takes the room of the buffer; an error is want of memory.
     pub fn new(alloc: Global, reader: R) -> Result<Self>
-        ensures { IfOk result (λ source. source.faults ≡ 0) }
+        ensures faults { IfOk result (λ source. source.faults ≡ 0) }
+        ensures left { IfOk result (λ source.
+            reader_remaining R.remaining source.inner ≡ R.remaining reader) }
     {
         let inner = BufReader::new(alloc, reader)?;
         Ok(StdSource { inner, faults: 0 })
@@ -24,7 +28,7 @@ impl<R: Read + Drop> StdSource<R> {
 }
 
 impl<R: Read + Drop> Source for StdSource<R> {
-    ghost left = { λ s. None };
+    ghost left = { λ s. reader_remaining R.remaining s.inner };
 
     ghost read_faults = { λ s. s.faults };
 
@@ -55,14 +59,15 @@ pub struct StdSink<W: Write + Drop> {
 impl<W: Write + Drop> StdSink<W> {
     /// The sink over this writer, with no fault so far.
     pub fn new(inner: W) -> Self
-        ensures { result.faults ≡ 0 }
+        ensures faults { result.faults ≡ 0 }
+        ensures taken { W.contents result.inner ≡ W.contents inner }
     {
         StdSink { inner, faults: 0 }
     }
 }
 
 impl<W: Write + Drop> Sink for StdSink<W> {
-    ghost taken = { λ s. None };
+    ghost taken = { λ s. W.contents s.inner };
 
     ghost write_faults = { λ s. s.faults };
 

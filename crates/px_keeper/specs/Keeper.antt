@@ -1,5 +1,5 @@
 -- What a keeper answers, and when it fails.
-use Rattle.std.specs.Prelude.{◌≡◌, ◌≢◌, ◌≤◌, ℕ, List, IsSome, Option, None, Some, Result, Ok, Err}
+use Rattle.std.specs.Prelude.{◌≡◌, ◌≢◌, ◌≤◌, ℕ, Bool, true, false, List, IsSome, Option, None, Some, Result, Ok, Err}
 use Rattle.std.specs.Cmp.Lexicographic.{slice_cmp}
 use Rattle.std.specs.Ordering.{nat_cmp}
 use Rattle.std.specs.declared.cmp.Ordering.TheVariants.{Less, Greater}
@@ -33,3 +33,10 @@ abbrev pub ScanGives : Rows → ℕ → Option (List ℕ) → Option (List ℕ �
 ScanGives rows table after (Some found) = IsNext rows table after found.0 found.1
 ScanGives rows table after None =
     (key : List ℕ) → IsAbove after key → row_at rows table key ≡ None
+
+-- where a keeper tells whether its next commit fails, the commit fails exactly so, and then it tells
+-- that the next one does not
+abbrev pub KeepsPlan : {A : Type 0} → Option Bool → Option Bool → Result A KeepFault → Type 0
+KeepsPlan None told result = told ≡ None
+KeepsPlan (Some true) told result = (told ≡ Some false) × (result ≡ Err Failed)
+KeepsPlan (Some false) told result = (told ≡ Some false) × (result ≢ Err Failed)

@@ -7,28 +7,27 @@ use Rattle.px_base.specs.Object.{GitObject}
 use Rattle.px_base.specs.RefList.{is_name}
 use Rattle.px_base.specs.RepoPath.{IsRepoPath}
 use Rattle.px_base.specs.declared.hash.Hash.{Hash}
-use Rattle.px_keeper.specs.Row.{Rows, row_key}
-use Rattle.node_rows.proofs.GoodRows.{rows_are_good}
+use Rattle.px_keeper.specs.Reading.{all_rows, no_rows}
+use Rattle.px_keeper.specs.Row.{Rows}
 use Rattle.node_rows.proofs.OneNode.{one_node}
-use Rattle.node_rows.proofs.ReadTables.{read_all, read_nothing}
-use Rattle.node_rows.specs.BadRow.{IsFirstBad}
+use Rattle.node_rows.proofs.ReadTables.{all_stand, nothing_has}
+use Rattle.node_rows.specs.BadRow.{AreGood}
 use Rattle.node_rows.specs.Rows.{StandFor}
 use Rattle.node_rows.proofs.RowBytes.{one_object}
 use Rattle.node_calls.proofs.ReplicaLemmas.{this_or_other}
 use Rattle.node_calls.specs.Lawful.{IsLawful, IsLawfulReplica}
 use Rattle.node_calls.specs.ReplicaState.{Changes, NodeState, ReplicaState, ReadyPush, nothing, without_ready}
-use Rattle.node_rows.specs.Reading.{IsReadTo, ObjectComes, RefComes, with_one, with_ref}
+use Rattle.node_rows.specs.Reading.{HasRows, ObjectComes, RefComes, with_one, with_ref}
 use Rattle.px_node.proofs.NameSize.{name_size}
 use Rattle.px_node.proofs.LawfulLemmas.{AreLawful-put, lawful_at_first}
 use Rattle.px_node.proofs.Places.{Changes-back, Changes-put, place_here}
-use Rattle.px_node.specs.Opening.{AreTold, IsUnread, ReadTo, TakesObject, TakesRef}
+use Rattle.px_node.specs.OpenEnds.{Opens}
+use Rattle.px_node.specs.Opening.{AreTold, TakesObject, TakesRef}
 use Rattle.px_node.specs.RowKeys.{TellsObject, TellsRef}
 use Rattle.px_node.specs.Shelf.{AreLawful, Puts, Replicas, place_at}
 use Rattle.node_replica.specs.Told.{MayHaveObject, MayHaveRef}
-use Rattle.px_node.specs.declared.opening.Unread.{Unread}
-use Rattle.px_node.specs.declared.opening.Unread.TheVariants as unread
-use Rattle.node_replica.specs.declared.replica.NotTaken.{NotTaken}
-use Rattle.node_replica.specs.declared.replica.NotTaken.TheVariants.{BadRow}
+use Rattle.px_keeper.specs.declared.take_rows.NotTaken.{NotTaken}
+use Rattle.px_keeper.specs.declared.take_rows.NotTaken.TheVariants.{BadRow}
 
 -- an error of one call is that of another
 pub as_err : {A B : Type 0} (e : NotTaken) → ◌≡◌ {A = Result A NotTaken} (Err e) (Err BadRow)
@@ -227,25 +226,20 @@ pub nothing_told : (replicas : Replicas) → replicas ≡ [] → AreTold replica
 nothing_told replicas none =
     subst AreTold (sym none) (record { lawful = lawful_at_first [] refl; unready = λ path. refl })
 
-pub nothing_read : (kept : Option Rows) (replicas : Replicas) → replicas ≡ []
-    → ReadTo kept 0 None (place_at replicas)
-nothing_read kept replicas none rows told =
-    read_nothing rows (place_at replicas) (λ path. ap (λ (r : Replicas). place_at r path) none)
+pub nothing_had : (replicas : Replicas) → replicas ≡ [] → HasRows (place_at replicas) no_rows
+nothing_had replicas none =
+    nothing_has (place_at replicas) (λ path. ap (λ (r : Replicas). place_at r path) none)
 
--- rows that stand for a lawful node give it back
-pub found_again : (kept : Option Rows) (opened : NodeState) → ReadTo kept 256 None opened
-    → (rows : Rows) (node : NodeState) → kept ≡ Some rows → IsLawful node → StandFor rows node
-    → (path : List ℕ) → opened path ≡ without_ready (node path)
-found_again kept opened reads rows node told lawful stand path =
-    let all : IsReadTo rows 256 None opened = reads rows told in
-    ap (λ (r : Option ReadyPush). record (opened path) { ready = r }) (all.unready path)
-    ∙ one_node rows opened node all.lawful lawful (read_all rows opened all) stand path
+module _ (kept : Option Rows) (opened : NodeState)
+    (reads : (rows : Rows) → kept ≡ Some rows → AreGood rows × HasRows opened (all_rows rows)) where
+  -- rows that are told and were all read are good, and stand for the node
+  pub all_opened : Opens kept opened
+  all_opened rows told = ((reads rows told).0, all_stand rows opened (reads rows told).1)
 
--- and none of them is bad
-pub none_is_bad : (kept : Option Rows) (error : Unread) (table : ℕ) (key : List ℕ)
-    → IsUnread kept error → error ≡ unread.BadRow table key → (rows : Rows) (node : NodeState)
-    → kept ≡ Some rows → IsLawful node → StandFor rows node → ⊥
-none_is_bad kept error table key names is rows node told lawful stand =
-    let named : IsUnread kept (unread.BadRow table key) = subst (IsUnread kept) is names in
-    let bad : IsFirstBad rows (row_key table key) = named.1 rows told in
-    bad.bad (rows_are_good rows node lawful stand (row_key table key) bad.value named.0 bad.there)
+  -- where they stood for a lawful node, they give it back
+  pub found_again : (rows : Rows) (node : NodeState) → kept ≡ Some rows → IsLawful node
+      → StandFor rows node → (path : List ℕ) → opened path ≡ without_ready (node path)
+  found_again rows node told lawful stand path =
+      let has : HasRows opened (all_rows rows) = (reads rows told).1 in
+      ap (λ (r : Option ReadyPush). record (opened path) { ready = r }) (has.unready path)
+      ∙ one_node rows opened node has.lawful lawful (all_stand rows opened has) stand path

@@ -1,18 +1,16 @@
 -- One row more is read, of whichever table, or it is the first bad one.
-use Rattle.std.proofs.Common.{◌≡◌, ◌+◌, ℕ, List, Option, None, Some, sym, subst}
+use Rattle.std.proofs.Common.{◌≡◌, ℕ, List, Option, Some, sym, subst}
 use Rattle.px_base.specs.Object.{GitObject}
 use Rattle.px_base.specs.declared.hash.Hash.{Hash}
-use Rattle.std.specs.Option.{IfSome}
-use Rattle.px_keeper.specs.Keeper.{IsNext, ScanGives}
+use Rattle.px_keeper.specs.Keeper.{IsNext}
 use Rattle.px_keeper.specs.Row.{Rows, row_key}
 use Rattle.node_rows.proofs.ReadObject.{bad_object, read_object}
 use Rattle.node_rows.proofs.ReadRef.{bad_ref, read_ref}
 use Rattle.node_rows.proofs.ReadReplica.{bad_replica, read_replica}
-use Rattle.node_rows.proofs.ReadTables.{read_table}
 use Rattle.node_rows.specs.BadRow.{IsFirstBad, IsReplicaRow}
 use Rattle.node_calls.specs.ReplicaState.{NodeState}
 use Rattle.node_rows.specs.Reading.{IsReadTo, ObjectComes, RefComes}
-use Rattle.px_node.specs.Opening.{ReadTo, TakesObject, TakesRef, TakesReplica}
+use Rattle.px_node.specs.Opening.{TakesObject, TakesRef, TakesReplica}
 
 module _ (table : ℕ) (rows : Rows) (last : Option (List ℕ)) (old new : NodeState)
     (key value : List ℕ) (reads : IsReadTo rows table last old)
@@ -65,45 +63,3 @@ module _ (table : ℕ) (rows : Rows) (last : Option (List ℕ)) (old new : NodeS
       → IsFirstBad rows (row_key table key)
   bad_row_of_object is bad =
       bad_back 8 is (bad_object rows last old key value (reads_at 8 is) (next_at 8 is) bad)
-
--- ---- where the keeper tells its rows
-
-module _ (kept : Option Rows) (table : ℕ) (last after : Option (List ℕ)) (old : NodeState)
-    (found : Option (List ℕ × List ℕ)) (reads : ReadTo kept table last old) (is : after ≡ last)
-    (gives : IfSome kept (λ (rows : Rows). ScanGives rows table after found)) where
-  gives_here : (rows : Rows) → kept ≡ Some rows → ScanGives rows table last found
-  gives_here rows told =
-      subst (λ (o : Option (List ℕ)). ScanGives rows table o found) is
-      (subst (λ (o : Option Rows). IfSome o (λ (r : Rows). ScanGives r table after found)) told
-      gives)
-
-  -- no row is left in the table
-  pub table_ends : found ≡ None → ReadTo kept (table + 1) None old
-  table_ends none rows told =
-      read_table rows table last old (reads rows told)
-      (subst (ScanGives rows table last) none (gives_here rows told))
-
-  module _ (key value bytes content : List ℕ) (row : found ≡ Some (key, value))
-      (same_key : bytes ≡ key) (same_value : content ≡ value) where
-    next_is : (rows : Rows) → kept ≡ Some rows → IsNext rows table last bytes content
-    next_is rows told =
-        subst (λ (k : List ℕ). IsNext rows table last k content) (sym same_key)
-        (subst (IsNext rows table last key) (sym same_value)
-        (subst (ScanGives rows table last) row (gives_here rows told)))
-
-    -- the next row was taken over
-    pub next_reads : (new : NodeState)
-        → ((rows : Rows) (l : Option (List ℕ)) → IsReadTo rows table l old
-        → IsNext rows table l bytes content → IsReadTo rows table (Some bytes) new)
-        → ReadTo kept table (Some key) new
-    next_reads new takes rows told =
-        subst (λ (k : List ℕ). IsReadTo rows table (Some k) new) same_key
-        (takes rows last (reads rows told) (next_is rows told))
-
-    -- or it is the first bad one
-    pub next_is_bad : ((rows : Rows) (l : Option (List ℕ)) → IsReadTo rows table l old
-        → IsNext rows table l bytes content → IsFirstBad rows (row_key table bytes))
-        → (rows : Rows) → kept ≡ Some rows → IsFirstBad rows (row_key table key)
-    next_is_bad bad rows told =
-        subst (λ (k : List ℕ). IsFirstBad rows (row_key table k)) same_key
-        (bad rows last (reads rows told) (next_is rows told))

@@ -1,127 +1,51 @@
-//! The rows of a keeper, read one after the other into replicas.
+//! The rows of a keeper, taken over one after the other into replicas.
 
-ghost use Rattle.std.specs.Prelude.{◌≡◌, ◌≢◌, ◌+◌, ℕ, List, Option, None, Some, Err, IfOk, IfErr, OnOk};
-ghost use Rattle.std.specs.Option.{option_copied};
+ghost use Rattle.std.specs.Prelude.{◌≡◌, ℕ, List, Option, Some, Err, OnOk};
 ghost use Rattle.px_keeper.specs.Keeper.{IsNext};
+ghost use Rattle.px_keeper.specs.Reading.{no_rows};
 ghost use Rattle.px_keeper.specs.Row.{Rows, row_key};
-ghost use Rattle.node_rows.specs.BadRow.{IsFirstBad, IsReplicaRow};
-ghost use Rattle.node_rows.specs.Reading.{IsReadTo, ObjectComes, RefComes};
+ghost use Rattle.node_rows.specs.BadRow.{IsFirstBad, IsGood, IsReplicaRow};
+ghost use Rattle.node_rows.specs.Reading.{HasRows, IsReadTo, ObjectComes, RefComes};
 ghost use Rattle.px_base.specs.Object.{GitObject};
 ghost use Rattle.px_base.specs.declared.hash.Hash.{Hash};
-ghost use Rattle.px_node.specs.Opening.{AreTold, IsUnread, ReadTo, TakesObject, TakesRef, TakesReplica, UnreadHasCause};
+ghost use Rattle.px_node.specs.Opening.{AreTold, TakesObject, TakesRef, TakesReplica};
 ghost use Rattle.px_node.specs.Shelf.{place_at};
 
 use crate::replicas::{Replicas, put};
 use crate::row_keys::{path_of, read_object_row, read_ref_row};
-use node_replica::{NotTaken, Replica};
+use node_replica::Replica;
 use node_rows::read_replica;
-use px_base::Bytes;
-use px_keeper::{KeepFault, Keeper};
+use px_keeper::{NotTaken, TakeRows};
 use std::alloc::Global;
+use std::collections::BTreeMap;
 
-/// Why rows were not read to their end.
+/// Replicas as the rows tell them that were read.
 #[derive(Drop)]
-pub(crate) enum Unread {
-    /// A node may not have the row.
-    BadRow {
-        /// The number of its table.
-        table: u8,
-        /// Its key in the table.
-        key: Bytes,
-    },
-    /// The keeper failed.
-    Fault,
-    /// Memory wanted.
-    Memory,
+pub(crate) struct Told {
+    pub(crate) replicas: Replicas,
 }
 
-/// Reads all rows of a keeper, table by table, into replicas of which there are none yet.
-pub(crate) fn read_rows<K: Keeper>(
-    alloc: Global,
-    keeper: &mut K,
-    replicas: &mut Replicas,
-) -> Result<(), Unread>
-    requires told { AreTold replicas.old.entries }
-    requires read { ReadTo (K.rows keeper.old) 0 None (place_at replicas.old.entries) }
-    ensures ok { OnOk result
-        (ReadTo (K.rows keeper.old) 256 None (place_at replicas.new.entries)) }
-    ensures bad { IfErr result (IsUnread (K.rows keeper.old)) }
-    ensures same { K.rows keeper.new ≡ K.rows keeper.old }
-    ensures told { OnOk result (AreTold replicas.new.entries) }
-    ensures cause { UnreadHasCause (K.keep_faults keeper.old) (K.keep_faults keeper.new) result }
-{
-    for table in 0u16..256 {
-        read_table(alloc, keeper, replicas, table as u8)?;
-    }
-    Ok(())
-}
-
-// Reads the rows of a table.
-fn read_table<K: Keeper>(
-    alloc: Global,
-    keeper: &mut K,
-    replicas: &mut Replicas,
-    table: u8,
-) -> Result<(), Unread>
-    requires told { AreTold replicas.old.entries }
-    requires read { ReadTo (K.rows keeper.old) table None (place_at replicas.old.entries) }
-    ensures ok { OnOk result
-        (ReadTo (K.rows keeper.old) (table + 1) None (place_at replicas.new.entries)) }
-    ensures bad { IfErr result (IsUnread (K.rows keeper.old)) }
-    ensures same { K.rows keeper.new ≡ K.rows keeper.old }
-    ensures told { OnOk result (AreTold replicas.new.entries) }
-    ensures cause { UnreadHasCause (K.keep_faults keeper.old) (K.keep_faults keeper.new) result }
-{
-    let mut last = None;
-    for _ in 0..u64::MAX {
-        match read_next(alloc, keeper, replicas, table, last)? {
-            Some(key) => last = Some(key),
-            None => return Ok(()),
+impl Told {
+    /// No row was read yet.
+    pub(crate) fn new(alloc: Global) -> Told
+        ensures none { HasRows (place_at result.replicas.entries) no_rows }
+        ensures told { AreTold result.replicas.entries }
+    {
+        Told {
+            replicas: BTreeMap::new(alloc),
         }
     }
-    // There are more rows than memory could hold.
-    Err(Unread::Memory)
 }
 
-// Reads the row of a table above the last one, if there is one, and gives its key.
-fn read_next<K: Keeper>(
-    alloc: Global,
-    keeper: &mut K,
-    replicas: &mut Replicas,
-    table: u8,
-    last: Option<Bytes>,
-) -> Result<Option<Bytes>, Unread>
-    requires told { AreTold replicas.old.entries }
-    requires read { ReadTo (K.rows keeper.old) table last (place_at replicas.old.entries) }
-    ensures more { IfOk result (λ key. key ≢ None
-        → ReadTo (K.rows keeper.old) table key (place_at replicas.new.entries)) }
-    ensures end { IfOk result (λ key. key ≡ None
-        → ReadTo (K.rows keeper.old) (table + 1) None (place_at replicas.new.entries)) }
-    ensures bad { IfErr result (IsUnread (K.rows keeper.old)) }
-    ensures same { K.rows keeper.new ≡ K.rows keeper.old }
-    ensures told { OnOk result (AreTold replicas.new.entries) }
-    ensures cause { UnreadHasCause (K.keep_faults keeper.old) (K.keep_faults keeper.new) result }
-{
-    let (key, value) = match keeper.scan(alloc, table, bytes_of(&last)) {
-        Ok(Some(row)) => row,
-        Ok(None) => return Ok(None),
-        Err(KeepFault::Failed) => return Err(Unread::Fault),
-        Err(KeepFault::Memory) => return Err(Unread::Memory),
-    };
-    match take_row(alloc, replicas, table, key.as_slice(), value.as_slice()) {
-        Ok(()) => Ok(Some(key)),
-        Err(NotTaken::BadRow) => Err(Unread::BadRow { table, key }),
-        Err(NotTaken::Memory) => Err(Unread::Memory),
-    }
-}
+impl TakeRows for Told {
+    ghost good = { IsGood };
 
-// The bytes of a key, if there is one.
-fn bytes_of(key: &Option<Bytes>) -> Option<&[u8]>
-    ensures { option_copied result ≡ key.now }
-{
-    match key {
-        Some(key) => Some(key.as_slice()),
-        None => None,
+    ghost has = { λ t. HasRows (place_at t.replicas.entries) };
+
+    ghost whole = { λ t. AreTold t.replicas.entries };
+
+    fn take(&mut self, alloc: Global, table: u8, key: &[u8], value: &[u8]) -> Result<(), NotTaken> {
+        take_row(alloc, &mut self.replicas, table, key, value)
     }
 }
 

@@ -7,9 +7,9 @@ ghost use Rattle.px_base.specs.RefName.{IsRefName};
 ghost use Rattle.px_base.specs.declared.hash.Hash.{Hash};
 ghost use Rattle.px_node.specs.RowKeys.{TellsObject, TellsRef};
 
-use node_replica::NotTaken;
 use node_rows::{parts_of, read_id, read_object};
 use px_base::{NameFault, Object, ObjectId, RefName, RepoPath};
+use px_keeper::NotTaken;
 use std::alloc::Global;
 
 /// What a row of table 7 tells: a reference of a repository.

@@ -1,6 +1,6 @@
 //! A node over a keeper of rows.
 
-ghost use Rattle.std.specs.Prelude.{◌≡◌, ◌≤◌, ℕ, List, None, Some, Ok, IfOk, IfSome, IfErr, OnOk, OnErr};
+ghost use Rattle.std.specs.Prelude.{◌≡◌, ◌≤◌, ℕ, List, None, Some, Ok, IsSome, IfOk, IfSome, IfErr, OnOk, OnErr};
 ghost use Rattle.node_calls.specs.Calls.{AbortRefuses, Aborts, ApplyRefuses, Applies, CommitRefuses, Commits, CreateRefuses, Creates, PrepareRefuses, Prepares, RemoveRefuses, Removes};
 ghost use Rattle.node_replica.specs.Checks.{IsNoRefusal, IsNotFault, IsRefusal};
 ghost use Rattle.node_calls.specs.Ends.{Ends, FenceEnds, IsRaised, ListEnds, NodeHasCause, ReadEnds};
@@ -10,17 +10,18 @@ ghost use Rattle.node_calls.specs.Lawful.{IsLawful};
 ghost use Rattle.node_calls.specs.ReplicaState.{NodeState, nothing, without_ready};
 ghost use Rattle.node_rows.specs.Rows.{StandFor};
 ghost use Rattle.px_keeper.specs.Row.{Rows};
-ghost use Rattle.px_node.specs.OpenEnds.{IsNotBad, Opens, OpensNot};
+ghost use Rattle.px_keeper.specs.OpenEnds.{IsNoFault, IsNotBad, OpensNot, keeper_in};
+ghost use Rattle.px_node.specs.OpenEnds.{Opens};
+ghost use Rattle.node_rows.specs.BadRow.{IsGood};
 ghost use Rattle.px_node.specs.Shelf.{AreLawful, RowsStand, Stays, place_at};
 ghost use Rattle.std.proofs.Props.{props};
 ghost use Rattle.std.specs.FinMap.{empty};
 
-use crate::OpenFault;
-use crate::opening::{Unread, read_rows};
+use crate::opening::Told;
 use crate::replicas::{self, Replicas, Unheard, find, keep_rows, make_room};
 use node_calls::{Node, NodeError, NodeRefusal, Snapshot};
 use px_base::{Hash, Lease, Object, ObjectId, PathList, Push, RefList, RepoPath};
-use px_keeper::Keeper;
+use px_keeper::{Keeper, OpenFault, read_all};
 use std::alloc::Global;
 use std::collections::BTreeMap;
 use voters::Verdict;
@@ -59,7 +60,7 @@ impl<K: Keeper + Drop> Shelf<K> {
             → (place_at shelf.replicas.entries path).ready ≡ None) }
         ensures keeper { IfOk result (λ shelf. (K.rows shelf.keeper ≡ K.rows keeper)
             × (K.keep_faults shelf.keeper ≡ K.keep_faults keeper)) }
-        ensures err { IfErr result (OpensNot K.rows K.keep_faults keeper) }
+        ensures err { IfErr result (OpensNot IsGood K.rows K.keep_faults keeper) }
 
         // What a node left gives it back, without the pushes that were ready.
         ensures again { (rows : Rows) (node : NodeState) → K.rows keeper ≡ Some rows
@@ -67,18 +68,20 @@ impl<K: Keeper + Drop> Shelf<K> {
             → place_at shelf.replicas.entries path ≡ without_ready (node path)) }
         ensures good { (rows : Rows) (node : NodeState) → K.rows keeper ≡ Some rows
             → IsLawful node → StandFor rows node → IfErr result IsNotBad }
+
+        // Whether the next commit fails is as it was, and a keeper that tells it does not fail here.
+        ensures plan { IfOk result (λ shelf. K.commit_fails shelf.keeper ≡ K.commit_fails keeper) }
+        ensures plan_kept { IfErr result (λ fault.
+            K.commit_fails (keeper_in fault) ≡ K.commit_fails keeper) }
+        ensures sure { IsSome (K.commit_fails keeper) → IfErr result IsNoFault }
     {
-        let mut keeper = keeper;
-        let mut replicas = BTreeMap::new(alloc);
-        match read_rows(alloc, &mut keeper, &mut replicas) {
-            Ok(()) => Ok(Shelf {
+        match read_all(alloc, keeper, Told::new(alloc)) {
+            Ok((keeper, told)) => Ok(Shelf {
                 keeper,
-                replicas,
+                replicas: told.replicas,
                 unheard: Unheard::new(alloc),
             }),
-            Err(Unread::BadRow { table, key }) => Err(OpenFault::BadRow { keeper, table, key }),
-            Err(Unread::Fault) => Err(OpenFault::KeeperFault { keeper }),
-            Err(Unread::Memory) => Err(OpenFault::Memory { keeper }),
+            Err(fault) => Err(fault),
         }
     }
 

@@ -1,12 +1,11 @@
 -- What a run of the program reads, prints, says and answers.
-use Rattle.std.specs.Prelude.{◌≡◌, ◌≢◌, ◌⊎◌, ◌≤◌, ◌++◌, ℕ, List, [], ◌∷◌, Option, Some, None, codes, decimal}
-use Rattle.std.specs.Io.KnownBytes.{Appends, Keeps}
-use Rattle.px_base.specs.Causes.{Rose}
+use Rattle.std.specs.Prelude.{◌≡◌, ◌≢◌, ◌⊎◌, ◌^◌, ◌++◌, ℕ, List, [], ◌∷◌, Option, Some, None, codes, decimal}
+use Rattle.std.specs.Io.KnownBytes.{Appends}
 use Rattle.px_base.specs.Sink.{TakesPart}
+use Rattle.script_run.specs.Stream.{HasFailed, HasNotFailed, Stream, Streams}
 use Rattle.script_run.specs.declared.run.RehearseEnd.{RehearseEnd}
 use Rattle.script_run.specs.declared.run.RehearseEnd.TheVariants as end
 use Rattle.px_world.specs.Rehearsal.{Rehearses}
-use Rattle.px_world.specs.declared.rehearsal.TheConstants.{MAX_INPUT_BYTES}
 use Rattle.px_run.specs.declared.status.Status.{Status}
 use Rattle.px_run.specs.declared.status.Status.TheVariants as status
 
@@ -43,31 +42,30 @@ message_of (Some end.ReadFault) = codes "praefect: read fault\n"
 message_of (Some end.WriteFault) = codes "praefect: write fault\n"
 message_of (Some end.Memory) = codes "praefect: out of memory\n"
 
--- the whole text went out and no fault came, or a part from its front and the count of faults rose
-abbrev pub Says : Option (List ℕ) → Option (List ℕ) → ℕ → ℕ → List ℕ → Type 0
-Says old new before now text =
-    (Appends old new text × (now ≡ before)) ⊎ (TakesPart old new text × (before ≤ now) × Rose before now)
+-- The whole text went out and the stream did not fail, or a part from its front went out and it failed.
+abbrev pub Says : Stream → Stream → List ℕ → Type 0
+Says old new text =
+    (Appends old.bytes new.bytes text × HasNotFailed old new)
+    ⊎ (TakesPart old.bytes new.bytes text × HasFailed old new)
 
--- the words are no command, and nothing goes out; or the rehearsal came to this end
-abbrev pub Ended : List (List ℕ) → Option (List ℕ) → Option (List ℕ) → Option (List ℕ)
-    → Option (List ℕ) → Option RehearseEnd → Type 0
-Ended words input left old new None = (words ≢ command) × Keeps old new
-Ended words input left old new (Some end) =
-    (words ≡ command) × Rehearses MAX_INPUT_BYTES input left old new end
+-- the words are no command, and nothing is read or printed; or the rehearsal came to this end
+abbrev pub Ended : List (List ℕ) → Streams → Streams → Option RehearseEnd → Type 0
+Ended words old new None = (words ≢ command) × (new ≡ old)
+Ended words old new (Some end) = (words ≡ command) × Rehearses (2 ^ 40) old new end
 
--- What the run came to, with the status that it answered and what it said: by the words, what the input had and has
--- left, what the output had and has taken, and what the error stream had and has taken, with its count of faults.
-pub record Runs (words : List (List ℕ)) (input left old new said said' : Option (List ℕ))
-    (before now : ℕ) (answer : Status) : Type 0 where
+-- What the run came to, with the status that it answered and what it said: by the words, by what it reads and prints to,
+-- before and after, and by the error stream.
+pub record Runs (words : List (List ℕ)) (old new : Streams) (said said' : Stream)
+    (answer : Status) : Type 0 where
   pub end : Option RehearseEnd
-  pub ended : Ended words input left old new end
+  pub ended : Ended words old new end
   pub answers : answer ≡ status_of end
-  pub says : Says said said' before now (message_of end)
+  pub says : Says said said' (message_of end)
 
 -- a fault is answered only where that count rose, and the counts stay otherwise
-abbrev pub RunHasCause : ℕ → ℕ → ℕ → ℕ → Status → Type 0
-RunHasCause reads reads' writes writes' status.ReadFault =
-    (reads ≤ reads') × Rose reads reads' × (writes' ≡ writes)
-RunHasCause reads reads' writes writes' status.WriteFault =
-    (reads' ≡ reads) × (writes ≤ writes') × Rose writes writes'
-RunHasCause reads reads' writes writes' answer = (reads' ≡ reads) × (writes' ≡ writes)
+abbrev pub RunHasCause : Streams → Streams → Status → Type 0
+RunHasCause old new status.ReadFault =
+    HasFailed old.input new.input × HasNotFailed old.out new.out
+RunHasCause old new status.WriteFault =
+    HasNotFailed old.input new.input × HasFailed old.out new.out
+RunHasCause old new answer = HasNotFailed old.input new.input × HasNotFailed old.out new.out

@@ -1,6 +1,7 @@
 //! The top call.
 
 ghost use Rattle.std.specs.Prelude.{◌≡◌};
+ghost use Rattle.script_run.specs.Stream.{stream, streams};
 ghost use Rattle.px_run.specs.Run.{Runs, RunHasCause};
 
 use crate::Status;
@@ -23,17 +24,24 @@ pub fn run<S: Source, O: Sink, E: Sink>(
     err: &mut E,
 ) -> Status
     // The run of the script, what is said of its end, and the status that goes with it.
-    ensures run { Runs words.now (S.left input.old) (S.left input.new)
-        (O.taken out.old) (O.taken out.new) (E.taken err.old) (E.taken err.new)
-        (E.write_faults err.old) (E.write_faults err.new) result }
+    ensures run { Runs words.now
+        (streams (S.left input.old) (S.read_faults input.old)
+        (O.taken out.old) (O.write_faults out.old))
+        (streams (S.left input.new) (S.read_faults input.new)
+        (O.taken out.new) (O.write_faults out.new))
+        (stream (E.taken err.old) (E.write_faults err.old))
+        (stream (E.taken err.new) (E.write_faults err.new)) result }
 
     // Nothing is read or written where the words are no command.
     ensures unread { result ≡ Status.Usage → input.new ≡ input.old }
     ensures unwritten { result ≡ Status.Usage → out.new ≡ out.old }
 
     // A fault is answered only where that count rose.
-    ensures cause { RunHasCause (S.read_faults input.old) (S.read_faults input.new)
-        (O.write_faults out.old) (O.write_faults out.new) result }
+    ensures cause { RunHasCause
+        (streams (S.left input.old) (S.read_faults input.old)
+        (O.taken out.old) (O.write_faults out.old))
+        (streams (S.left input.new) (S.read_faults input.new)
+        (O.taken out.new) (O.write_faults out.new)) result }
 {
     if !words.is_only("rehearse") {
         say(err, b"praefect: usage\n");

@@ -2,15 +2,35 @@
 use Rattle.std.proofs.Common.{◌≡◌, ◌++◌, ℕ, List, [], ◌∷◌, Option, Some, None, refl, ap, sym, ◌∙◌, subst}
 use Rattle.std.specs.List.{AllByRecursion, join_with_byte, onto_first}
 use Rattle.std.proofs.lemmas.List.Splits.{join_with_byte-slice_split}
-use Rattle.px_script.specs.Reading.{event_of, Gives, IsOpening}
+use Rattle.std.specs.Option.{option_map}
+use Rattle.px_ops.specs.declared.op.Op.{Op}
+use Rattle.px_script.specs.LineReading.{event_of, IsOpening}
+use Rattle.px_script.specs.VoteReading.{vote_of}
 use Rattle.px_script.specs.Words.{line_words}
-use Rattle.px_script.specs.Spelling.{Asks, IsSilent, MayListVoters, Reads, Spells, words_of}
+use Rattle.px_script.specs.Spelling.{Asks, IsLawfulEvent, IsSilent, MayListVoters, Spells, words_of}
 use Rattle.px_script.specs.declared.event.Event.{Event}
-use Rattle.px_script.specs.declared.script_line.ScriptLine.{ScriptLine}
-use Rattle.px_script.specs.declared.script_line.ScriptLine.TheVariants.{Nothing, Bad, Memory}
-use Rattle.px_script.specs.declared.script_line.ScriptLine.TheVariants as answer
-use Rattle.px_script.proofs.KindLemmas.{event_of-some, event_of-words_of, words_of-whole}
+use Rattle.px_script.specs.declared.event.Event.TheVariants.{Operation}
+use Rattle.px_script.proofs.VoteLines.{vote_of-some, vote_of-vote_words, vote_words-whole}
 use Rattle.px_script.proofs.WordLemmas.{IsWhole, line_words-joined}
+
+-- the words of a lawful event have no space
+words_of-whole : (event : Event) → IsLawfulEvent event → AllByRecursion (IsWhole 32) (words_of event)
+words_of-whole (Operation op) h = vote_words-whole op h
+
+-- an event is read back from its words
+event_of-words_of : (event : Event) → IsLawfulEvent event → event_of (words_of event) ≡ Some event
+event_of-words_of (Operation op) h =
+    let back = vote_of-vote_words op h in
+    ap event_of back.2 ∙ ap (option_map Operation) back.3
+
+-- what is read as an event is its words
+event_of-some : (words : List (List ℕ)) (event : Event) → event_of words ≡ Some event → IsLawfulEvent event × (words_of event ≡ words)
+event_of-some [] event is = cc
+event_of-some (first ∷ words) event is = by (vote_of first words) event refl is
+  where
+    by : (read : Option Op) (event : Event) → vote_of first words ≡ read → option_map Operation read ≡ Some event → IsLawfulEvent event × (words_of event ≡ first ∷ words)
+    by None event none is = cc
+    by (Some made) (Operation op) some is = let same : made ≡ op = cc in vote_of-some first words op (some ∙ ap (λ (o : Op). Some o) same)
 
 -- words that are joined and cut give the same event
 event_of-joined : (words : List (List ℕ)) → AllByRecursion (IsWhole 32) words → event_of (line_words (join_with_byte 32 words)) ≡ event_of words
@@ -58,25 +78,10 @@ opening_begins (first ∷ next ∷ words) opens =
     record { rest = 32 ∷ join_with_byte 32 (next ∷ words); begins = ap (λ (w : List ℕ). w ++ 32 ∷ join_with_byte 32 (next ∷ words)) opens }
 
 -- so it may list voters
-opening_lists : (line : List ℕ) → IsOpening (line_words line) → MayListVoters line
+pub opening_lists : (line : List ℕ) → IsOpening (line_words line) → MayListVoters line
 opening_lists line opens = subst MayListVoters (join_with_byte-slice_split 32 line) (opening_begins (line_words line) opens)
 
 -- where no event is read, a line that is not silent asks nothing
-unasked : (asked : Option Event) (line : List ℕ) → (IsSilent line → ⊥) → event_of (line_words line) ≡ None → Asks asked line → ⊥
+pub unasked : (asked : Option Event) (line : List ℕ) → (IsSilent line → ⊥) → event_of (line_words line) ≡ None → Asks asked line → ⊥
 unasked None line loud none asks = loud asks
 unasked (Some event) line loud none asks = let r = spelled_is_read event line asks in absurd (cc)
-
--- what the words of a line that is not silent give is what it asks
-pub gives_reads : (line : List ℕ) (given : ScriptLine) → (IsSilent line → ⊥) → Gives (event_of (line_words line)) given
-    → (given ≡ Memory → IsOpening (line_words line)) → Reads line given
-gives_reads line given loud gives opens = by (event_of (line_words line)) given refl gives opens
-  where
-    by : (read : Option Event) (given : ScriptLine) → event_of (line_words line) ≡ read → Gives read given
-        → (given ≡ Memory → IsOpening (line_words line)) → Reads line given
-    by read Memory is gives opens = opening_lists line (opens refl)
-    by None Nothing is gives opens = absurd gives
-    by None (answer.Asks event) is gives opens = absurd gives
-    by None Bad is gives opens = λ asked asks. unasked asked line loud is asks
-    by (Some event) Nothing is gives opens = absurd gives
-    by (Some event) (answer.Asks read) is gives opens = read_is_spelled read line (is ∙ ap (λ (e : Event). Some e) gives)
-    by (Some event) Bad is gives opens = absurd gives

@@ -8,7 +8,7 @@ use Rattle.std.proofs.lemmas.List.Sums.{passes_at_first, split_at_first}
 use Rattle.std.proofs.Math.Seq.{drop-append-add, take-append_seam}
 use Rattle.px_base.specs.declared.voter.Voter.{Voter}
 use Rattle.px_script.specs.Words.{before_others, name_of, small_of, voter_from, voter_of, voters_of}
-use Rattle.px_script.specs.Spelling.{IsLawfulVoter, voter_word}
+use Rattle.px_script.specs.VoteSpelling.{IsLawfulVoter, voter_word}
 use Rattle.px_script.proofs.NameLemmas.{name_of-name, name_of-some, whole-name}
 use Rattle.px_script.proofs.NumberLemmas.{small_of-decimal, small_of-some, whole-decimal}
 use Rattle.px_script.proofs.WordLemmas.{IsWhole, each-append}

@@ -8,7 +8,7 @@ use Rattle.std.proofs.lemmas.List.Sums.{fails_before_first}
 use Rattle.std.proofs.lemmas.Slice.Eq.{bytes_eq-Decides}
 use Rattle.px_base.specs.declared.phase.Phase.{Phase}
 use Rattle.px_base.specs.declared.phase.Phase.TheVariants.{Prepared, Committed}
-use Rattle.px_script.specs.Spelling.{phase_word}
+use Rattle.px_ops.specs.VoteTexts.{phase_word}
 use Rattle.px_script.specs.Words.{end_of, line_words, phase_of, words_left, HasNo, IsCutAt}
 
 -- what two present values hold is one, where the two are

@@ -1,16 +1,17 @@
-//! The lines of a script: the events that they ask for, how each is spelled, and the reader of a
-//! line.
+//! The lines of a script: the events that they ask for, how each is spelled, and the reader of a line.
+//! A family of lines has one file of readers, one in specs/ of how its lines are spelled and one of what
+//! is read, and one in proofs/: the lines on votes are such a family.
 #![tactic(auto)]
 
 mod cut;
 mod event;
-mod kinds;
 mod laws;
 mod line_words;
 mod number;
 mod reader;
 mod script_line;
-mod voters;
+mod voter_list;
+mod votes;
 
 pub use event::Event;
 pub use laws::no_line_asks_two;

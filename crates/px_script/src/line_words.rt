@@ -1,6 +1,6 @@
 //! The words that are left of a line.
 
-ghost use Rattle.std.specs.Prelude.{◌≡◌, ◌∷◌, [], IfNone, IfSome, drop};
+ghost use Rattle.std.specs.Prelude.{◌≡◌, ◌∷◌, [], IfNone, IfSome, bytes_eq, drop};
 ghost use Rattle.px_base.specs.Hash.{hash_of};
 ghost use Rattle.px_script.specs.Words.{end_of, first_of, line_words, name_of, number_of, phase_of, small_of};
 
@@ -115,11 +115,18 @@ pub fn read_name(word: &[u8]) -> Option<StorageName>
 fn read_phase(word: &[u8]) -> Option<Phase>
     ensures { result ≡ phase_of word.now }
 {
-    if word == b"prepared".as_slice() {
+    if is_text(word, b"prepared") {
         Some(Phase::Prepared)
-    } else if word == b"committed".as_slice() {
+    } else if is_text(word, b"committed") {
         Some(Phase::Committed)
     } else {
         None
     }
+}
+
+/// Whether the word is this text.
+pub fn is_text(word: &[u8], text: &[u8]) -> bool
+    ensures { result ≡ bytes_eq word.now text.now }
+{
+    word == text
 }

@@ -1,32 +1,24 @@
 -- The machine that a rehearsal drives: what each event answers, and where it leads.
-use Rattle.std.specs.Prelude.{◌+◌, ◌-◌, ◌^◌, nat_lt, Bool, true, false, if◌then◌else◌, List, ℕ, Option, None, Some}
+use Rattle.std.specs.Prelude.{◌≡◌, ◌+◌, ◌-◌, ◌^◌, nat_lt, Bool, true, false, if◌then◌else◌, List, ℕ, Option, None, Some}
 use Rattle.px_base.specs.declared.ids.TxId.{TxId}
 use Rattle.px_base.specs.declared.voter.Voter.{Voter}
 use Rattle.px_script.specs.Spelling.{Asks}
 use Rattle.px_script.specs.declared.event.Event.{Event}
-use Rattle.px_script.specs.declared.event.Event.TheVariants.{Open, Cast, Withdraw, Cancel, Stop, Close, Collect, Outcome}
+use Rattle.px_script.specs.declared.event.Event.TheVariants.{Operation}
+use Rattle.px_ops.specs.declared.op.Op.TheVariants.{Open, Cast, Withdraw, Cancel, Stop, Close, Collect, Outcome}
+use Rattle.px_ops.specs.declared.refusal.Refusal.{Refusal}
+use Rattle.px_ops.specs.declared.refusal.Refusal.TheVariants.{BadRounds, NotOut, TransactionsSpent}
+use Rattle.px_ops.specs.declared.reply.Reply.{Reply}
+use Rattle.px_ops.specs.declared.reply.Reply.TheVariants.{Opened, Refused}
 use Rattle.script_run.specs.Machine.{Machine as MachineOf}
 use Rattle.txmanager.specs.Registry.{answer_at, are_lawful_rounds, transaction_at, with_changed, with_registered, without_transaction}
 use Rattle.txmanager.specs.VoterCalls as by
 use Rattle.txmanager.specs.Voting as on
 use Rattle.voters.specs.Panel.{panel_refusal}
 use Rattle.voters.specs.declared.panel.PanelRefusal.{PanelRefusal}
-use Rattle.voters.specs.declared.panel.PanelRefusal.TheVariants as panel
-use Rattle.px_world.specs.Replies.{counted, done, outcome_told, result_told}
+use Rattle.px_world.specs.Replies.{counted, done, outcome_told, refused_panel, result_told}
 use Rattle.px_world.specs.State.{State}
 use Rattle.px_world.specs.Texts.{text_of}
-use Rattle.px_world.specs.declared.refusal.Refusal.{Refusal}
-use Rattle.px_world.specs.declared.refusal.Refusal.TheVariants.{NoVoters, TooManyVoters, DuplicateVoter, BadThreshold, BadRounds, TransactionsSpent}
-use Rattle.px_world.specs.declared.reply.Reply.{Reply}
-use Rattle.px_world.specs.declared.reply.Reply.TheVariants.{Opened, Refused}
-
--- what is refused where there is no such panel
-abbrev pub refused_panel : PanelRefusal → Option Refusal
-refused_panel panel.NoVoters = Some NoVoters
-refused_panel (panel.TooManyVoters n) = Some (TooManyVoters n)
-refused_panel (panel.DuplicateVoter name) = Some (DuplicateVoter name)
-refused_panel (panel.BadThreshold total threshold) = Some (BadThreshold total threshold)
-refused_panel panel.Memory = None
 
 -- the first reason why nothing is opened: there is no such panel, the number of rounds is not from
 -- 1 to 8, or no number is left
@@ -53,30 +45,26 @@ with_opened None state threshold rounds voters = record {
 
 -- the event opens a transaction
 abbrev pub opens : Event → Bool
-opens (Open threshold rounds voters) = true
-opens (Cast tx voter phase hash) = false
-opens (Withdraw tx voter) = false
-opens (Cancel tx) = false
-opens (Stop tx) = false
-opens (Close tx) = false
-opens (Collect tx voter sub) = false
-opens (Outcome tx sub) = false
+opens (Operation (Open threshold rounds voters)) = true
+opens other = false
 
--- what an event answers
+-- what an event answers; the world has transactions alone, and what is asked of anything else is out of
+-- it
 abbrev pub reply_of : State → Event → Reply
-reply_of state (Open threshold rounds voters) =
+reply_of state (Operation (Open threshold rounds voters)) =
     opening state (open_refusal state rounds (panel_refusal voters threshold))
-reply_of state (Cast tx voter phase hash) =
+reply_of state (Operation (Cast tx voter phase hash)) =
     counted (answer_at (transaction_at state.transactions tx) tx (by.cast_answer voter phase hash))
-reply_of state (Withdraw tx voter) =
+reply_of state (Operation (Withdraw tx voter)) =
     done (answer_at (transaction_at state.transactions tx) tx (by.cancel_voter_answer voter))
-reply_of state (Cancel tx) = done (answer_at (transaction_at state.transactions tx) tx on.done)
-reply_of state (Stop tx) = done (answer_at (transaction_at state.transactions tx) tx on.stop_answer)
-reply_of state (Close tx) = done (answer_at (transaction_at state.transactions tx) tx on.done)
-reply_of state (Collect tx voter sub) =
-    result_told (answer_at (transaction_at state.transactions tx) tx (on.collect_answer voter sub))
-reply_of state (Outcome tx sub) =
+reply_of state (Operation (Cancel tx)) = done (answer_at (transaction_at state.transactions tx) tx on.done)
+reply_of state (Operation (Stop tx)) = done (answer_at (transaction_at state.transactions tx) tx on.stop_answer)
+reply_of state (Operation (Close tx)) = done (answer_at (transaction_at state.transactions tx) tx on.done)
+reply_of state (Operation (Collect tx voter sub)) =
+    result_told sub (answer_at (transaction_at state.transactions tx) tx (on.collect_answer voter sub))
+reply_of state (Operation (Outcome tx sub)) =
     outcome_told (answer_at (transaction_at state.transactions tx) tx (on.outcome_answer sub))
+reply_of state (Operation other) = Refused NotOut
 
 -- the state with what becomes of the transaction of a number, where there is one
 abbrev pub with_tx : State → TxId → (on.Voting → on.Voting) → State
@@ -87,20 +75,26 @@ with_tx state tx becomes = record {
 
 -- where an event leads
 abbrev pub next_state : State → Event → State
-next_state state (Open threshold rounds voters) =
+next_state state (Operation (Open threshold rounds voters)) =
     with_opened (open_refusal state rounds (panel_refusal voters threshold)) state
     threshold rounds voters
-next_state state (Cast tx voter phase hash) = with_tx state tx (by.after_cast voter phase hash)
-next_state state (Withdraw tx voter) = with_tx state tx (by.after_cancel_voter voter)
-next_state state (Cancel tx) = with_tx state tx on.after_cancel
-next_state state (Stop tx) = with_tx state tx on.after_stop
-next_state state (Close tx) = record {
+next_state state (Operation (Cast tx voter phase hash)) = with_tx state tx (by.after_cast voter phase hash)
+next_state state (Operation (Withdraw tx voter)) = with_tx state tx (by.after_cancel_voter voter)
+next_state state (Operation (Cancel tx)) = with_tx state tx on.after_cancel
+next_state state (Operation (Stop tx)) = with_tx state tx on.after_stop
+next_state state (Operation (Close tx)) = record {
   last = state.last;
   transactions = without_transaction state.transactions tx;
 }
-next_state state (Collect tx voter sub) = state
-next_state state (Outcome tx sub) = state
+next_state state (Operation (Collect tx voter sub)) = state
+next_state state (Operation (Outcome tx sub)) = state
+next_state state (Operation other) = state
+
+-- an event is answered so, and leads there
+pub record Does (state : State) (event : Event) (reply : Reply) (then_ : State) : Type 0 where
+  pub answers : reply ≡ reply_of state event
+  pub leads : then_ ≡ next_state state event
 
 -- the machine: its lines, its steps and its texts
 abbrev pub machine : MachineOf State Event Reply
-machine = record { asks = Asks; next = next_state; reply = reply_of; text = text_of }
+machine = record { asks = Asks; does = Does; text = text_of }

@@ -2,11 +2,12 @@
 
 ghost use Rattle.script_run.specs.Acts.{Acts};
 ghost use Rattle.script_run.specs.Ends.{EndHasCause};
+ghost use Rattle.script_run.specs.Stream.{streams};
 ghost use Rattle.px_world.specs.Machine.{machine};
-ghost use Rattle.px_world.specs.Rehearsal.{Rehearses};
+ghost use Rattle.px_world.specs.Rehearsal.{Rehearses, input_limit};
 
-use crate::{Event, Reply, World, line_of};
-use px_base::{Sink, Source};
+use crate::{Event, Reply, World, add_line};
+use px_base::{Bytes, Sink, Source};
 use px_script::{ScriptLine, read_line};
 use script_run::{Act, RehearseEnd, StateMachine, run_script};
 use std::alloc::Global;
@@ -19,11 +20,20 @@ impl StateMachine for World {
 
     type Reply = Reply;
 
+    ghost use Rattle.std.proofs.Common.{sym, ◌∙◌};
     ghost use Rattle.px_world.specs.Machine.{machine};
+    ghost use Rattle.px_world.specs.State.{State};
+
+    ghost State = { State };
+
+    ghost state = { λ w. w };
 
     ghost machine = { machine };
 
-    fn act(&mut self, alloc: Global, line: &[u8]) -> Act {
+    ghost one_answer = { λ s s' s'' e r r' a b.
+        (a.answers ∙ sym b.answers, a.leads ∙ sym b.leads) };
+
+    fn act(&mut self, alloc: Global, line: &[u8], text: &mut Bytes) -> Act {
         let event = match read_line(alloc, line) {
             ScriptLine::Asks(event) => event,
             ScriptLine::Nothing => return Act::Nothing,
@@ -33,8 +43,8 @@ impl StateMachine for World {
         let Ok(reply) = self.step(alloc, &event) else {
             return Act::Memory;
         };
-        match line_of(alloc, &reply) {
-            Ok(text) => Act::Prints(text),
+        match add_line(text, &reply) {
+            Ok(()) => Act::Prints,
             Err(_) => Act::Memory,
         }
     }
@@ -48,10 +58,16 @@ pub fn rehearse_within<S: Source, O: Sink>(
     input: &mut S,
     out: &mut O,
 ) -> RehearseEnd
-    ensures run { Rehearses limit (S.left input.old) (S.left input.new)
-        (O.taken out.old) (O.taken out.new) result }
-    ensures cause { EndHasCause (S.read_faults input.old) (S.read_faults input.new)
-        (O.write_faults out.old) (O.write_faults out.new) result }
+    ensures run { Rehearses limit
+        (streams (S.left input.old) (S.read_faults input.old)
+        (O.taken out.old) (O.write_faults out.old))
+        (streams (S.left input.new) (S.read_faults input.new)
+        (O.taken out.new) (O.write_faults out.new)) result }
+    ensures cause { EndHasCause
+        (streams (S.left input.old) (S.read_faults input.old)
+        (O.taken out.old) (O.write_faults out.old))
+        (streams (S.left input.new) (S.read_faults input.new)
+        (O.taken out.new) (O.write_faults out.new)) result }
 {
     let mut world = World::new(alloc);
     run_script(alloc, &mut world, limit, input, out)
@@ -59,10 +75,16 @@ pub fn rehearse_within<S: Source, O: Sink>(
 
 /// Rehearses a script, from the empty world.
 pub fn rehearse<S: Source, O: Sink>(alloc: Global, input: &mut S, out: &mut O) -> RehearseEnd
-    ensures run { Rehearses MAX_INPUT_BYTES (S.left input.old) (S.left input.new)
-        (O.taken out.old) (O.taken out.new) result }
-    ensures cause { EndHasCause (S.read_faults input.old) (S.read_faults input.new)
-        (O.write_faults out.old) (O.write_faults out.new) result }
+    ensures run { Rehearses input_limit
+        (streams (S.left input.old) (S.read_faults input.old)
+        (O.taken out.old) (O.write_faults out.old))
+        (streams (S.left input.new) (S.read_faults input.new)
+        (O.taken out.new) (O.write_faults out.new)) result }
+    ensures cause { EndHasCause
+        (streams (S.left input.old) (S.read_faults input.old)
+        (O.taken out.old) (O.write_faults out.old))
+        (streams (S.left input.new) (S.read_faults input.new)
+        (O.taken out.new) (O.write_faults out.new)) result }
 {
     rehearse_within(alloc, MAX_INPUT_BYTES, input, out)
 }

@@ -1,9 +1,10 @@
 -- The last byte of those that were read.
-use Rattle.std.proofs.Common.{◌≡◌, ◌+◌, ◌<◌, ℕ, List, [], ◌∷◌, ◌++◌, length, Option, arith, refl, ap, inl, subst}
+use Rattle.std.proofs.Common.{◌≡◌, ◌+◌, ◌<◌, ℕ, List, [], ◌∷◌, ◌++◌, length, arith, refl, ap, inl, subst}
 use Rattle.std.specs.Io.KnownBytes.{Consumes}
 use Rattle.px_base.specs.Line.{HasNoLf}
 use Rattle.script_run.specs.Next.{IsTooLong}
-use Rattle.script_run.specs.declared.TheConstants.{MAX_LINE_BYTES}
+use Rattle.script_run.specs.Script.{line_limit}
+use Rattle.script_run.specs.Stream.{Stream}
 
 -- bytes without a line feed, cut before the last one
 record CutLast (read : List ℕ) : Type 0 where
@@ -30,8 +31,8 @@ some_cut [] some part = absurd (omega arith)
 some_cut (b ∷ read) some part = cut_last b read part
 
 -- one byte more than the room came, and a line may have more
-pub past_room : (room : ℕ) (old new : Option (List ℕ)) (read : List ℕ) → room < MAX_LINE_BYTES → HasNoLf read → length read ≡ room + 1
-    → Consumes old new read → IsTooLong room old new
+pub past_room : (room : ℕ) (old new : Stream) (read : List ℕ) → room < line_limit → HasNoLf read → length read ≡ room + 1
+    → Consumes old.bytes new.bytes read → IsTooLong room old new []
 past_room room old new read small part size came =
     let c = some_cut read (omega arith) part in
     record {
@@ -40,5 +41,5 @@ past_room room old new read small part size came =
       part = c.part;
       reaches = omega (arith, c.size);
       short = inl (omega (arith, c.size));
-      consumed = subst (λ (bytes : List ℕ). Consumes old new bytes) c.whole came;
+      consumed = subst (λ (bytes : List ℕ). Consumes old.bytes new.bytes bytes) c.whole came;
     }

@@ -3,8 +3,12 @@ use Rattle.std.specs.Prelude.{◌≡◌, ◌≢◌, ◌⊎◌, ℕ, ◌≤◌, L
 use Rattle.std.specs.List.{AllByRecursion}
 use Rattle.std.specs.Io.KnownBytes.{Appends}
 use Rattle.px_base.specs.Line.{HasNoLf}
-use Rattle.script_run.specs.Machine.{Machine, events, output, state_after}
-use Rattle.script_run.specs.declared.TheConstants.{MAX_LINE_BYTES}
+use Rattle.script_run.specs.Machine.{Machine, Runs, events, output}
+use Rattle.script_run.specs.Stream.{Stream}
+
+-- the most bytes of a line, beside its line feed
+abbrev pub line_limit : ℕ
+line_limit = 1048576
 
 -- the bytes of lines, each with its line feed
 abbrev pub ended : List (List ℕ) → List ℕ
@@ -29,7 +33,7 @@ AreLinesOf lines text = AreLines lines × ((text ≡ ended lines) ⊎ LacksFeed 
 -- the line asks this, and is not above the greatest length
 pub record IsLawful {S E R : Type 0} (m : Machine S E R) (asked : Option E) (line : List ℕ)
     : Type 0 where
-  pub short : length line ≤ MAX_LINE_BYTES
+  pub short : length line ≤ line_limit
   pub asks : m.asks asked line
 
 -- each line is lawful, and asks what stands at its place
@@ -43,11 +47,13 @@ AllAsk m (asked ∷ more) (line ∷ lines) = IsLawful m asked line × AllAsk m m
 abbrev pub IsBad : {S E R : Type 0} → Machine S E R → List ℕ → Type 0
 IsBad {E = E} m line = (asked : Option E) → m.asks asked line → ⊥
 
--- These lines were done: each is lawful, the machine is where their events lead, and all that they print went out.
-pub record Played {S E R : Type 0} (m : Machine S E R) (s s' : S) (old new : Option (List ℕ))
+-- These lines were done: each is lawful, their events were answered so and led to where the machine is, and all that
+-- is printed of the replies went out.
+pub record Played {S E R : Type 0} (m : Machine S E R) (s s' : S) (old new : Stream)
     (lines : List (List ℕ)) : Type 0 where
   pub parts : AreLines lines
   pub asked : List (Option E)
   pub lawful : AllAsk m asked lines
-  pub state : s' ≡ state_after m s (events asked)
-  pub written : Appends old new (output m s (events asked))
+  pub replies : List R
+  pub run : Runs m s (events asked) replies s'
+  pub written : Appends old.bytes new.bytes (output m replies)

@@ -1,18 +1,18 @@
 //! A machine that the lines of a script drive.
 
 ghost use Rattle.script_run.specs.Acts.{Acts};
-ghost use Rattle.script_run.specs.Machine.{Machine};
+ghost use Rattle.script_run.specs.Machine.{IsDetermined, Machine};
 
 use px_base::Bytes;
 use std::alloc::Global;
 
 /// What a line came to at a machine.
-#[derive(Drop)]
+#[derive(Clone, Copy, Debug, PartialEq, Eq)]
 pub enum Act {
     /// The line asks nothing, as an empty one or a comment.
     Nothing,
-    /// The line asks an event, which was done; this is the line that is printed of it.
-    Prints(Bytes),
+    /// The line asks an event, which was done, and the line that is printed of it was added to the text.
+    Prints,
     /// No event is asked by such a line.
     Bad,
     /// Memory wanted.
@@ -27,10 +27,20 @@ pub trait StateMachine {
     /// What the machine answers.
     type Reply;
 
-    /// What the events of the machine do.
-    ghost machine: { Machine Self Self.Event Self.Reply };
+    /// What a state of the machine is, as contracts see it.
+    ghost State: { Type 0 };
 
-    /// Does what a line asks.
-    fn act(&mut self, alloc: Global, line: &[u8]) -> Act
-        ensures { Acts machine self.old self.new line.now result };
+    /// The state that the machine is in.
+    ghost state: { Self → State };
+
+    /// What the events of the machine may do.
+    ghost machine: { Machine State Self.Event Self.Reply };
+
+    /// Does what a line asks, and adds what is printed of it to a text that is lent. Where nothing is printed, a part may
+    /// have been added.
+    fn act(&mut self, alloc: Global, line: &[u8], text: &mut Bytes) -> Act
+        ensures { Acts machine (state self.old) (state self.new) line.now text.old text.new result };
+
+    /// A law: an event has one answer in each state, and leads to one.
+    ghost one_answer: { IsDetermined machine };
 }

@@ -1,18 +1,19 @@
 //! The next line of a script, under the limit of a line and that of the whole input.
 
 ghost use Rattle.script_run.specs.Next.{NextGives, NextHasCause};
+ghost use Rattle.script_run.specs.Stream.{stream};
 
 use crate::MAX_LINE_BYTES;
 use px_base::{Bytes, Piece, Source, read_piece};
-use std::alloc::Global;
 
 /// What came of a script.
-#[derive(Drop)]
+#[derive(Clone, Copy)]
 pub(crate) enum Next {
-    /// A line, whose line feed came.
-    Line(Bytes),
-    /// The last line, which lacks its line feed.
-    Last(Bytes),
+    /// A line, which stands in the buffer without its line feed.
+    Line {
+        /// Whether it is the last one, which has a byte and lacks its line feed.
+        last: bool,
+    },
     /// Nothing was left.
     End,
     /// A line above the greatest length.
@@ -25,20 +26,23 @@ pub(crate) enum Next {
     Memory,
 }
 
-/// Reads a line of a script of which `room` bytes more may come. Where one byte passes both limits, the line is overlong.
-pub(crate) fn next_line<S: Source>(alloc: Global, input: &mut S, room: u64) -> Next
-    ensures bytes { NextGives room (S.left input.old) (S.left input.new) result }
-    ensures cause { NextHasCause (S.read_faults input.old) (S.read_faults input.new) result }
+/// Reads a line of a script of which `room` bytes more may come into a buffer, in place of what was there. Where one byte
+/// passes both limits, the line is overlong.
+pub(crate) fn next_line<S: Source>(input: &mut S, room: u64, line: &mut Bytes) -> Next
+    ensures bytes { NextGives room (stream (S.left input.old) (S.read_faults input.old))
+        (stream (S.left input.new) (S.read_faults input.new)) line.new result }
+    ensures cause { NextHasCause (stream (S.left input.old) (S.read_faults input.old))
+        (stream (S.left input.new) (S.read_faults input.new)) result }
 {
     let max = (MAX_LINE_BYTES as u64).min(room) as usize;
-    match read_piece(alloc, input, max) {
-        Piece::Line(line) => {
+    match read_piece(input, max, line) {
+        Piece::Line => {
             if line.len() as u64 >= room {
                 return Next::TooLong;
             }
-            Next::Line(line)
+            Next::Line { last: false }
         }
-        Piece::Last(line) => Next::Last(line),
+        Piece::Last => Next::Line { last: true },
         Piece::End => Next::End,
         Piece::TooLong => {
             if room >= MAX_LINE_BYTES as u64 {

@@ -1,11 +1,12 @@
 //! The run of a whole script.
 
 ghost use Rattle.script_run.specs.Ends.{Ends, EndHasCause};
+ghost use Rattle.script_run.specs.Stream.{streams};
 
 use crate::StateMachine;
 use crate::next::{Next, next_line};
 use crate::playing::{Play, play_line};
-use px_base::{Sink, Source};
+use px_base::{Bytes, Sink, Source};
 use std::alloc::Global;
 
 /// What the run of a script came to.
@@ -35,36 +36,40 @@ pub fn run_script<M: StateMachine, S: Source, O: Sink>(
     input: &mut S,
     out: &mut O,
 ) -> RehearseEnd
-    ensures run { Ends M.machine limit machine.old machine.new
-        (S.left input.old) (S.left input.new) (O.taken out.old) (O.taken out.new) result }
-    ensures cause { EndHasCause (S.read_faults input.old) (S.read_faults input.new)
-        (O.write_faults out.old) (O.write_faults out.new) result }
+    ensures run { Ends M.machine limit (M.state machine.old) (M.state machine.new)
+        (streams (S.left input.old) (S.read_faults input.old)
+        (O.taken out.old) (O.write_faults out.old))
+        (streams (S.left input.new) (S.read_faults input.new)
+        (O.taken out.new) (O.write_faults out.new)) result }
+    ensures cause { EndHasCause
+        (streams (S.left input.old) (S.read_faults input.old)
+        (O.taken out.old) (O.write_faults out.old))
+        (streams (S.left input.new) (S.read_faults input.new)
+        (O.taken out.new) (O.write_faults out.new)) result }
 {
+    let mut line = Bytes::new(alloc);
+    let mut text = Bytes::new(alloc);
     let mut room = limit;
     let mut number: u64 = 0;
     loop {
-        match next_line(alloc, input, room) {
-            Next::Line(line) => {
-                number += 1;
-                room -= line.len() as u64 + 1;
-                match play_line(alloc, machine, line.as_slice(), out) {
-                    Play::Done => {}
-                    Play::Bad => return RehearseEnd::BadLine(number),
-                    Play::WriteFault => return RehearseEnd::WriteFault,
-                    Play::Memory => return RehearseEnd::Memory,
-                }
-            }
-            Next::Last(line) => match play_line(alloc, machine, line.as_slice(), out) {
-                Play::Done => return RehearseEnd::Done,
-                Play::Bad => return RehearseEnd::BadLine(number + 1),
-                Play::WriteFault => return RehearseEnd::WriteFault,
-                Play::Memory => return RehearseEnd::Memory,
-            },
+        let last = match next_line(input, room, &mut line) {
+            Next::Line { last } => last,
             Next::End => return RehearseEnd::Done,
             Next::Overlong => return RehearseEnd::BadLine(number + 1),
             Next::TooLong => return RehearseEnd::TooLong,
             Next::ReadFault => return RehearseEnd::ReadFault,
             Next::Memory => return RehearseEnd::Memory,
+        };
+        match play_line(alloc, machine, line.as_slice(), &mut text, out) {
+            Play::Done => {}
+            Play::Bad => return RehearseEnd::BadLine(number + 1),
+            Play::WriteFault => return RehearseEnd::WriteFault,
+            Play::Memory => return RehearseEnd::Memory,
         }
+        if last {
+            return RehearseEnd::Done;
+        }
+        number += 1;
+        room -= line.len() as u64 + 1;
     }
 }

@@ -1,9 +1,10 @@
-//! The keeper in memory.
+//! The keepers in memory.
 
 use crate::answers::add;
 use crate::calls::{compare, parts};
 use px_base::Bytes;
-use px_keeper::{Batch, KeepFault, Keeper, MemKeeper};
+use px_keeper::{ArmedKeeper, Batch, KeepFault, Keeper, MemKeeper, SureKeeper};
+use px_node::Shelf;
 use std::alloc::{AllocError, Global};
 use std::test::Fail;
 
@@ -54,7 +55,7 @@ fn batch(alloc: Global, words: &str) -> Result<Batch, AllocError> {
 }
 
 // The length of a batch, and what committing it comes to.
-fn commit(alloc: Global, keeper: &mut MemKeeper, words: &str) -> Result<String, AllocError> {
+fn commit<K: Keeper>(alloc: Global, keeper: &mut K, words: &str) -> Result<String, AllocError> {
     let batch = batch(alloc, words)?;
     let word = match keeper.commit(&batch) {
         Ok(()) => "ok",
@@ -65,7 +66,7 @@ fn commit(alloc: Global, keeper: &mut MemKeeper, words: &str) -> Result<String, 
 }
 
 // The value of a row, given as a digit for the table and a letter for the key.
-fn get(alloc: Global, keeper: &mut MemKeeper, row: &str) -> Result<String, AllocError> {
+fn get<K: Keeper>(alloc: Global, keeper: &mut K, row: &str) -> Result<String, AllocError> {
     let [digit, key] = row.as_bytes() else {
         return String::from_str(alloc, "no row");
     };
@@ -76,27 +77,78 @@ fn get(alloc: Global, keeper: &mut MemKeeper, row: &str) -> Result<String, Alloc
     }
 }
 
-// What a keeper answers to a call.
-fn answer(alloc: Global, keeper: &mut MemKeeper, call: &str) -> Result<String, AllocError> {
+// The row of a table above a key, given as a digit for the table and a letter for the key.
+fn scan<K: Keeper>(alloc: Global, keeper: &mut K, after: &str) -> Result<String, AllocError> {
+    let [digit, key] = after.as_bytes() else {
+        return String::from_str(alloc, "no row");
+    };
+    let table = digit.wrapping_sub(b'0');
+    match keeper.scan(alloc, table, Some(&[*key])) {
+        Ok(Some((key, value))) => row(alloc, table, &key, &value),
+        Ok(None) => String::from_str(alloc, "none"),
+        Err(_) => String::from_str(alloc, "failed"),
+    }
+}
+
+// What any keeper answers to a call.
+fn answer<K: Keeper>(alloc: Global, keeper: &mut K, call: &str) -> Result<String, AllocError> {
     let (name, words) = call.split_once(" ").unwrap_or((call, ""));
     match name {
         "commit" => commit(alloc, keeper, words),
         "get" => get(alloc, keeper, words),
+        "scan" => scan(alloc, keeper, words),
         "faults" => format!(in alloc; "{}", keeper.faults()),
         "rows" => rows(alloc, keeper),
         _ => String::from_str(alloc, "no such call"),
     }
 }
 
-// Makes the calls of a table to a keeper that has no rows, and of which these calls fail.
-fn play_at_first(alloc: Global, failing: &[u64], table: &str) -> Result<(), Fail> {
-    let mut keeper = MemKeeper::new(alloc, Vec::from_slice(alloc, failing)?);
+// A keeper that calls of a table are made to.
+trait Called {
+    fn called(&mut self, alloc: Global, call: &str) -> Result<String, AllocError>;
+}
+
+impl Called for MemKeeper {
+    fn called(&mut self, alloc: Global, call: &str) -> Result<String, AllocError> {
+        match call {
+            "calls" => format!(in alloc; "{}", self.calls()),
+            _ => answer(alloc, self, call),
+        }
+    }
+}
+
+impl Called for SureKeeper {
+    fn called(&mut self, alloc: Global, call: &str) -> Result<String, AllocError> {
+        answer(alloc, self, call)
+    }
+}
+
+impl Called for ArmedKeeper {
+    fn called(&mut self, alloc: Global, call: &str) -> Result<String, AllocError> {
+        match call {
+            "arm" => {
+                self.arm();
+                String::from_str(alloc, "armed")
+            }
+            _ => answer(alloc, self, call),
+        }
+    }
+}
+
+// Makes the calls of a table to a keeper.
+fn play<K: Called>(alloc: Global, keeper: &mut K, table: &str) -> Result<(), Fail> {
     for line in table.lines() {
         let (call, want) = parts(line)?;
-        let told = answer(alloc, &mut keeper, call)?;
+        let told = keeper.called(alloc, call)?;
         compare(call, told.as_str(), want)?;
     }
     Ok(())
+}
+
+// Makes the calls of a table to a keeper that has no rows, and of which these calls fail.
+fn play_at_first(alloc: Global, failing: &[u64], table: &str) -> Result<(), Fail> {
+    let mut keeper = MemKeeper::new(alloc, Vec::from_slice(alloc, failing)?);
+    play(alloc, &mut keeper, table)
 }
 
 const WHOLE: &str = "\
@@ -104,12 +156,19 @@ const WHOLE: &str = "\
     rows -> 6 63=33 7 61=32 7 62=34
     get 7b -> 34
     get 8d -> none
+    scan 7a -> 7 62=34
+    scan 7b -> none
     commit -> 0 ok
     faults -> 0";
 
 #[test]
 fn a_batch_is_kept_whole_and_in_order(rt: HostRuntime) -> Result<(), Fail> {
     play_at_first(rt.alloc(), &[], WHOLE)
+}
+
+#[test]
+fn a_keeper_that_is_sure_keeps_rows_and_never_fails(rt: HostRuntime) -> Result<(), Fail> {
+    play(rt.alloc(), &mut SureKeeper::new(rt.alloc()), WHOLE)
 }
 
 const FAILING: &str = "\
@@ -123,4 +182,64 @@ const FAILING: &str = "\
 #[test]
 fn a_call_that_fails_does_nothing_and_is_counted(rt: HostRuntime) -> Result<(), Fail> {
     play_at_first(rt.alloc(), &[2, 3, 4], FAILING)
+}
+
+// `rows` makes a call for each row and one for the end of each of three tables.
+const COUNTED: &str = "\
+    calls -> 0
+    commit 6a1 -> 1 ok
+    calls -> 1
+    get 6a -> failed
+    scan 6a -> none
+    calls -> 3
+    faults -> 1
+    calls -> 3
+    rows -> 6 61=31
+    calls -> 7";
+
+#[test]
+fn calls_are_counted_and_so_are_those_that_fail(rt: HostRuntime) -> Result<(), Fail> {
+    play_at_first(rt.alloc(), &[2], COUNTED)
+}
+
+const ARMED: &str = "\
+    commit 6a1 -> 1 ok
+    arm -> armed
+    get 6a -> 31
+    scan 6a -> none
+    arm -> armed
+    faults -> 0
+    commit 6a2 7b3 -> 2 failed
+    faults -> 1
+    rows -> 6 61=31
+    commit 6a2 7b3 -> 2 ok
+    faults -> 1
+    rows -> 6 61=32 7 62=33
+    arm -> armed
+    commit -> 0 failed
+    faults -> 2
+    commit -> 0 ok";
+
+#[test]
+fn an_armed_keeper_fails_at_its_next_commit_alone(rt: HostRuntime) -> Result<(), Fail> {
+    play(rt.alloc(), &mut ArmedKeeper::new(rt.alloc()), ARMED)
+}
+
+// The fault comes at the first effect, which is then as if it had not been asked for.
+const OVER_ARMED: &str = "\
+    list ->
+    fence x.git 0 -> last -
+    create x.git 1 -> fault
+    list ->
+    create x.git 1 -> ok
+    list -> x.git";
+
+#[test]
+fn a_node_is_opened_over_an_armed_keeper_and_faults_once(rt: HostRuntime) -> Result<(), Fail> {
+    let mut keeper = ArmedKeeper::new(rt.alloc());
+    keeper.arm();
+    match Shelf::open(rt.alloc(), keeper) {
+        Ok(mut node) => crate::calls::play(rt.alloc(), &mut node, OVER_ARMED),
+        Err(_) => Err(Fail::new("the node was not opened")),
+    }
 }

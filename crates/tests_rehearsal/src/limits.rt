@@ -3,8 +3,8 @@
 use crate::calls::{Answers, play};
 use crate::runs::rehearsed;
 use px_base::{MemSink, MemSource};
-use script_run::MAX_LINE_BYTES;
 use px_world::rehearse_within;
+use script_run::MAX_LINE_BYTES;
 use std::alloc::{AllocError, Global};
 use std::test::Fail;
 

@@ -1,12 +1,11 @@
 //! Lines and events at a world, and what it answers.
 
 use crate::calls::{Answers, play};
-use px_base::{MemSink, MemSource, StorageName, TxId};
+use px_base::{Bytes, MemSink, MemSource, RepoId, StorageName, TxId};
+use px_world::{Event, Op, Refusal, RehearseEnd, Reply, World, add_line, rehearse};
 use script_run::{Act, StateMachine};
-use px_world::{Event, Refusal, RehearseEnd, Reply, World, line_of, rehearse};
 use std::alloc::Global;
 use std::test::Fail;
-use txmanager::TxRefusal;
 use voters::{Outcome, VoterResult};
 
 // A line that is printed, without its line feed.
@@ -15,39 +14,48 @@ fn printed(bytes: &[u8]) -> &str {
     text.strip_suffix("\n").unwrap_or("no line feed")
 }
 
+// What a line comes to. What is printed of it is added to a text that holds a word.
 fn act(alloc: Global, world: &mut World, line: &str) -> Result<String, Fail> {
-    match world.act(alloc, line.as_bytes()) {
-        Act::Prints(text) => Ok(String::from_str(alloc, printed(text.as_slice()))?),
+    let mut text = Bytes::from_slice(alloc, b"before ")?;
+    match world.act(alloc, line.as_bytes(), &mut text) {
+        Act::Prints => Ok(String::from_str(alloc, printed(text.as_slice()))?),
         Act::Nothing => Ok(String::from_str(alloc, "nothing")?),
         Act::Bad => Ok(String::from_str(alloc, "bad")?),
         Act::Memory => Ok(String::from_str(alloc, "memory")?),
     }
 }
 
-// Events on the first vote of the first transaction, and a stop of the second one.
+// Events on the first vote of the first transaction, a stop of the second one, and a push, which no
+// line asks for.
 fn event(word: &str) -> Result<Event, Fail> {
     let (tx, sub) = (TxId(1), 1);
-    Ok(match word {
-        "collect" => Event::Collect {
+    let op = match word {
+        "collect" => Op::Collect {
             tx,
             voter: StorageName::read(b"a")?,
             sub,
         },
-        "outcome" => Event::Outcome { tx, sub },
-        _ => Event::Stop { tx: TxId(2) },
-    })
+        "outcome" => Op::Outcome { tx, sub },
+        "stop" => Op::Stop { tx: TxId(2) },
+        _ => Op::Begin { repo: RepoId(0) },
+    };
+    Ok(Event::Operation(op))
 }
 
 // The reply to an event, and its line.
 fn step(alloc: Global, world: &mut World, asked: &Event) -> Result<String, Fail> {
     let reply = world.step(alloc, asked)?;
     let kind = match reply {
-        Reply::Counted(VoterResult::Open) => "counted",
+        Reply::Counted {
+            sub: 1,
+            result: VoterResult::Open,
+        } => "counted",
         Reply::OutcomeIs(Outcome::Open) => "outcome",
-        Reply::Refused(Refusal::Transaction(TxRefusal::UnknownTx(TxId(2)))) => "unknown",
+        Reply::Refused(Refusal::UnknownTx(TxId(2))) => "unknown",
         _ => "another",
     };
-    let line = line_of(alloc, &reply)?;
+    let mut line = Bytes::new(alloc);
+    add_line(&mut line, &reply)?;
     Ok(format!(in alloc; "{kind} {}", printed(line.as_slice()))?)
 }
 
@@ -62,9 +70,9 @@ impl Answers for World {
 
 // The number is 2^64 - 1.
 const LAST_NUMBER: &str = "\
-    act open 1 1 a:1->tx 18446744073709551615
-    act open 1 1 a:1->refused TransactionsSpent
-    act outcome 18446744073709551615 1->open
+    act open 1 1 a:1->before tx 18446744073709551615
+    act open 1 1 a:1->before refused TransactionsSpent
+    act outcome 18446744073709551615 1->before open
     act # nothing->nothing
     act nothing->bad";
 
@@ -79,10 +87,11 @@ fn the_last_number_is_given_once(rt: HostRuntime) -> Result<(), Fail> {
 }
 
 const STEPS: &str = "\
-    act open 1 1 a:1->tx 1
+    act open 1 1 a:1->before tx 1
     step collect->counted open
     step outcome->outcome open
-    step stop->unknown refused UnknownTx 2";
+    step stop->unknown refused UnknownTx 2
+    step begin->another refused NotOut";
 
 #[test]
 fn a_step_answers_and_its_reply_has_a_line(rt: HostRuntime) -> Result<(), Fail> {

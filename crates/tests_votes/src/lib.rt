@@ -6,6 +6,8 @@ mod calls;
 #[cfg(test)]
 mod names;
 #[cfg(test)]
+mod standard;
+#[cfg(test)]
 mod streams;
 #[cfg(test)]
 mod transactions;

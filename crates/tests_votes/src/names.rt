@@ -1,7 +1,7 @@
 //! Names, hashes and lists.
 
 use crate::calls::{Answers, play};
-use px_base::{Bytes, Hash, Items, NameFault, StorageName, Words};
+use px_base::{Bytes, Hash, Items, NameFault, RefList, StorageName, Words};
 use std::alloc::{AllocError, Global};
 use std::test::Fail;
 
@@ -71,6 +71,12 @@ const HASHES: &str = "\
     hash ->no";
 
 #[test]
+fn a_hash_has_the_bytes_that_its_text_stands_for(rt: HostRuntime) {
+    let hash = Hash::read(b"a9993e364706816aba3e25717850c26c9cd0d89d");
+    assert!(rt; matches!(hash, Some(hash) if hash.as_bytes() == ABC.0.as_slice()));
+}
+
+#[test]
 fn a_hash_has_one_text(rt: HostRuntime) -> Result<(), Fail> {
     play(rt.alloc(), &mut Readers, HASHES)
 }
@@ -88,13 +94,26 @@ fn bytes_are_added_at_the_end(rt: HostRuntime) -> Result<(), Fail> {
     let bytes = grown(rt.alloc())?;
     assert!(rt; bytes.as_slice() == b"abcde".as_slice() && bytes.len() == 5);
     assert!(rt; Items::<u32>::new(rt.alloc()).is_empty());
+    assert!(rt; !RefList::new(rt.alloc()).is_full());
     Ok(())
+}
+
+// The word at a place, in brackets.
+fn word_at(alloc: Global, words: &Words, at: usize) -> Result<String, Fail> {
+    let text = match words.get(at) {
+        Some(word) => str::from_utf8(word).unwrap_or("?"),
+        None => return Ok(String::from_str(alloc, "none")?),
+    };
+    Ok(format!(in alloc; "[{text}]")?)
 }
 
 impl Answers for Words {
     fn answer(&mut self, alloc: Global, name: &str, rest: &str) -> Result<String, Fail> {
-        if name == "push" {
-            self.push(alloc, rest)?;
+        match name {
+            "first" => return word_at(alloc, self, 0),
+            "second" => return word_at(alloc, self, 1),
+            "push" => self.push(alloc, rest)?,
+            _ => {}
         }
         let (none, only) = (self.is_empty(), self.is_only("rehearse"));
         Ok(format!(in alloc; "{} none={none} only={only}", self.len())?)
@@ -103,8 +122,12 @@ impl Answers for Words {
 
 const WORDS: &str = "\
     count ->0 none=true only=false
+    first ->none
     push rehearse->1 none=false only=true
-    push rehearse->2 none=false only=false";
+    second ->none
+    push more words->2 none=false only=false
+    first ->[rehearse]
+    second ->[more words]";
 
 #[test]
 fn words_are_counted_and_compared(rt: HostRuntime) -> Result<(), Fail> {

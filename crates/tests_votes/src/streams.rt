@@ -2,8 +2,8 @@
 
 use crate::calls::{Answers, play};
 use px_base::{
-    LineEnd, MemSink, MemSource, Piece, ReadEnd, Sink, Source, StdSink, StdSource, line,
-    read_piece, write_all,
+    Bytes, FailingCalls, LineEnd, MemSink, MemSource, Piece, ReadEnd, Sink, Source, line, read_piece,
+    write_all,
 };
 use std::alloc::Global;
 use std::test::Fail;
@@ -25,15 +25,17 @@ fn next_line(alloc: Global, source: &mut MemSource) -> Result<String, Fail> {
 }
 
 fn next_piece(alloc: Global, source: &mut MemSource) -> Result<String, Fail> {
-    match read_piece(alloc, source, 2) {
-        Piece::Line(bytes) => shown(alloc, "line", bytes.as_slice()),
-        Piece::Last(bytes) => shown(alloc, "last", bytes.as_slice()),
+    // What stood in the buffer before is not of the line.
+    let mut bytes = Bytes::from_slice(alloc, b"stale")?;
+    match read_piece(source, 2, &mut bytes) {
+        Piece::Line => shown(alloc, "line", bytes.as_slice()),
+        Piece::Last => shown(alloc, "last", bytes.as_slice()),
         _ => Ok(String::from_str(alloc, "another")?),
     }
 }
 
-// A read of two bytes: what it came to, the faults so far, and the bytes in brackets.
-fn read<S: Source>(alloc: Global, source: &mut S) -> Result<String, Fail> {
+/// A read of two bytes: what it came to, the faults so far, and the bytes in brackets.
+pub fn read<S: Source>(alloc: Global, source: &mut S) -> Result<String, Fail> {
     let mut room = [0; 2];
     let end = source.read(&mut room);
     let bytes: &[u8] = match end {
@@ -86,8 +88,8 @@ fn the_listed_read_fails(rt: HostRuntime) -> Result<(), Fail> {
     play_in(rt.alloc(), b"abc", 2, READS)
 }
 
-// What a write of some bytes came to, and the faults so far.
-fn write<K: Sink>(alloc: Global, sink: &mut K, bytes: &[u8]) -> Result<String, Fail> {
+/// What a write of some bytes came to, and the faults so far.
+pub fn write<K: Sink>(alloc: Global, sink: &mut K, bytes: &[u8]) -> Result<String, Fail> {
     if bytes.is_empty() {
         return Err(Fail::new("nothing to write"));
     }
@@ -95,8 +97,8 @@ fn write<K: Sink>(alloc: Global, sink: &mut K, bytes: &[u8]) -> Result<String, F
     Ok(format!(in alloc; "{end:?} {}", sink.write_faults())?)
 }
 
-// What writing a whole text came to, and the faults so far.
-fn write_text(alloc: Global, sink: &mut MemSink, text: &[u8]) -> Result<String, Fail> {
+/// What writing a whole text came to, and the faults so far.
+pub fn write_text<K: Sink>(alloc: Global, sink: &mut K, text: &[u8]) -> Result<String, Fail> {
     let end = write_all(sink, text);
     Ok(format!(in alloc; "{end:?} {}", sink.write_faults())?)
 }
@@ -123,35 +125,20 @@ fn the_listed_write_fails(rt: HostRuntime) -> Result<(), Fail> {
     play(rt.alloc(), &mut MemSink::new(rt.alloc(), failing), WRITES)
 }
 
-impl Answers for StdSource<&[u8]> {
+impl Answers for FailingCalls {
     fn answer(&mut self, alloc: Global, _: &str, _: &str) -> Result<String, Fail> {
-        read(alloc, self)
+        let fails = self.next_fails();
+        Ok(format!(in alloc; "{} fails={fails}", self.calls())?)
     }
 }
 
-const STD_READS: &str = "\
-    read ->Took(2) 0 [ab]
-    read ->Took(1) 0 [c]
-    read ->End 0 []";
+const CALLS: &str = "\
+    call ->1 fails=false
+    call ->2 fails=true
+    call ->3 fails=false";
 
 #[test]
-fn a_std_reader_is_a_source(rt: HostRuntime) -> Result<(), Fail> {
-    let mut source = StdSource::new(rt.alloc(), b"abc".as_slice())?;
-    play(rt.alloc(), &mut source, STD_READS)
-}
-
-impl Answers for StdSink<Vec<u8>> {
-    fn answer(&mut self, alloc: Global, _: &str, rest: &str) -> Result<String, Fail> {
-        write(alloc, self, rest.as_bytes())
-    }
-}
-
-#[test]
-fn a_std_writer_is_a_sink(rt: HostRuntime) -> Result<(), Fail> {
-    let alloc = rt.alloc();
-    play(
-        alloc,
-        &mut StdSink::new(Vec::new(alloc)),
-        "write abc->Took(3) 0",
-    )
+fn calls_are_counted_and_the_listed_one_fails(rt: HostRuntime) -> Result<(), Fail> {
+    let mut calls = FailingCalls::new(Vec::from_slice(rt.alloc(), &[2])?);
+    play(rt.alloc(), &mut calls, CALLS)
 }

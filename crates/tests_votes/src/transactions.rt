@@ -81,3 +81,17 @@ const CALLS: &str = "\
 fn a_transaction_is_registered_voted_on_and_closed(rt: HostRuntime) -> Result<(), Fail> {
     play(rt.alloc(), &mut Manager::new(rt.alloc()), CALLS)
 }
+
+// Eight rounds are two votes each, and nine are refused.
+const EIGHT: &str = "\
+    register 8->Ok(())
+    outcome 16->Ok(Open)
+    outcome 17->Err(NoSub(17))
+    cast a prepared->Ok((1, Open))
+    stop ->Ok(())
+    collect a 16->Ok(Stopped)";
+
+#[test]
+fn a_transaction_has_up_to_eight_rounds(rt: HostRuntime) -> Result<(), Fail> {
+    play(rt.alloc(), &mut Manager::new(rt.alloc()), EIGHT)
+}

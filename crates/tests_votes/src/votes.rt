@@ -81,6 +81,23 @@ fn a_panel_needs_a_threshold_above_half_that_it_can_reach(rt: HostRuntime) -> Re
     play(rt.alloc(), &mut Makers, PANELS)
 }
 
+// The 64 letters, digits and marks of which each is a name, and the point beside them.
+const NAMES: &[u8] = b"ABCDEFGHIJKLMNOPQRSTUVWXYZabcdefghijklmnopqrstuvwxyz0123456789-_.";
+
+#[test]
+fn a_panel_has_up_to_64_voters(rt: HostRuntime) -> Result<(), Fail> {
+    let alloc = rt.alloc();
+    let mut sub = Sub::new(alloc, &panel(alloc, &NAMES[..64], 1, 64)?)?;
+    play(
+        alloc,
+        &mut sub,
+        "len ->64\ncast 63 red->Ok(Open)\ncast 64 red->Err(NotAVoter)",
+    )?;
+    let more = paneled(alloc, NAMES, 1, 64)?;
+    assert_eq!(rt; more.as_str(), "TooManyVoters { n: 65 }");
+    Ok(())
+}
+
 // What is reached, the threshold, and the total; the last number is 2^64 - 1.
 const VERDICTS: &str = "\
     verdict 2 2 3->true 2 2 3

@@ -15,7 +15,7 @@ use Rattle.txmanager.specs.Rounds.{is_gone, is_out, out_from, out_of, without, w
 use Rattle.txmanager.proofs.CarryLemmas.{out_uncommitted, without_each_kept}
 use Rattle.txmanager.proofs.ChainLemmas.{chain_kept}
 
-voted_without : (v w : ℕ) (x : Votes) → voted_in v (without w x) ≡ voted_in v x
+pub voted_without : (v w : ℕ) (x : Votes) → voted_in v (without w x) ≡ voted_in v x
 voted_without v w x =
     elim (cases_Bool (is_stopped x.outcome || is_gone (slice_get x.marks w))) [
       | inl t ↦ rw t refl

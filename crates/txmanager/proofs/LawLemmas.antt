@@ -77,7 +77,7 @@ opened_threshold poll zero = tt
 opened_threshold poll (suc n) = (refl, opened_threshold poll n)
 
 -- what holds of each holds of the one in a place
-all_at : (holds : Votes → Type 0) (xs : List Votes) (i : ℕ) (a : Votes) → AllByRecursion holds xs → slice_get xs i ≡ Some a → holds a
+pub all_at : (holds : Votes → Type 0) (xs : List Votes) (i : ℕ) (a : Votes) → AllByRecursion holds xs → slice_get xs i ≡ Some a → holds a
 all_at holds [] i a all there = absurd (cc)
 all_at holds (x ∷ xs) zero a all there = (let e : x ≡ a = cc in rw (← e) all.0)
 all_at holds (x ∷ xs) (suc i) a all there = all_at holds xs i a all.1 there

@@ -8,4 +8,6 @@ pub mod LawLemmas
 pub mod OnlyLemmas
 pub mod OutLemmas
 pub mod RegistryLemmas
+pub mod RegistryRunLemmas
+pub mod RunLemmas
 pub mod StopLemmas

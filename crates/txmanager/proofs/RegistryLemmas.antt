@@ -1,5 +1,5 @@
 -- What is found of a number after a transaction was registered, changed or closed.
-use Rattle.std.proofs.Common.{◌≡◌, ℕ, [], ◌∷◌, true, false, Option, None, Some, refl, ap, sym, ◌∙◌, inl, inr}
+use Rattle.std.proofs.Common.{◌≡◌, ℕ, [], ◌∷◌, true, false, Option, None, Some, Result, Ok, Err, OnErr, refl, ap, sym, ◌∙◌, inl, inr}
 use Rattle.std.specs.BTreeMap.{insert_entry, is_at}
 use Rattle.std.specs.FinMap.{nat_cmp-IsAntisymmetric}
 use Rattle.std.specs.Map.{lookup, remove_entry, set_value}
@@ -8,9 +8,11 @@ use Rattle.std.specs.Ordering.{is_eq, match_ordering, nat_cmp}
 use Rattle.std.specs.declared.cmp.Ordering.{Ordering}
 use Rattle.std.specs.declared.cmp.Ordering.TheVariants.{Less, Equal, Greater}
 use Rattle.std.proofs.lemmas.Bool.{cases_Bool}
+use Rattle.std.proofs.lemmas.Map.Steps.{set_value_same}
 use Rattle.px_base.specs.declared.ids.TxId.{TxId}
-use Rattle.txmanager.specs.Registry.{Registry, transaction_at, with_changed, with_transaction}
-use Rattle.txmanager.specs.Voting.{Voting}
+use Rattle.txmanager.specs.Registry.{Registry, answer_at, transaction_at, with_changed, with_transaction}
+use Rattle.txmanager.specs.Voting.{Voting, unless_err}
+use Rattle.txmanager.specs.declared.refusal.TxRefusal.{TxRefusal}
 
 is_equal : (r : Ordering) → is_eq r ≡ true → r ≡ Equal
 is_equal Less e = absurd (cc)
@@ -71,3 +73,26 @@ other_changed registry tx other becomes differ = other_with registry tx other (o
 
 pub other_closed : (registry : Registry) (tx other : TxId) → (other ≡ tx → ⊥) → transaction_at (remove_entry (is_at (nat_cmp tx.0)) registry) other ≡ transaction_at registry other
 other_closed registry tx other differ = lookup_removed other.0 tx.0 (record { voters = []; subs = [] }) (differ_in other tx differ) registry
+
+-- a refusal changes nothing
+
+pub on_unless_err : {A : Type 0} (answer : Result A TxRefusal) (old new : Voting) → OnErr answer (unless_err answer old new ≡ old)
+on_unless_err (Ok value) old new = tt
+on_unless_err (Err refusal) old new = refl
+
+written_same : {A : Type 0} (registry : Registry) (tx : TxId) (voting new : Voting) (answer : Result A TxRefusal) → transaction_at registry tx ≡ Some voting
+    → OnErr answer (new ≡ voting) → OnErr answer (set_value (is_at (nat_cmp tx.0)) registry new ≡ registry)
+written_same registry tx voting new (Ok value) there same = tt
+written_same registry tx voting new (Err refusal) there same = rw same (set_value_same (is_at (nat_cmp tx.0)) registry voting there)
+
+found_same : {A : Type 0} (registry : Registry) (tx : TxId) (becomes : Voting → Voting) (answer : Voting → Result A TxRefusal) (o : Option Voting) → transaction_at registry tx ≡ o
+    → ((voting : Voting) → OnErr (answer voting) (becomes voting ≡ voting))
+    → OnErr (answer_at o tx answer) (with_transaction registry tx (option_map becomes o) ≡ registry)
+found_same registry tx becomes answer None there same = refl
+found_same registry tx becomes answer (Some voting) there same = written_same registry tx voting (becomes voting) (answer voting) there (same voting)
+
+pub refused_same : {A : Type 0} (registry new : Registry) (tx : TxId) (becomes : Voting → Voting) (answer : Voting → Result A TxRefusal) (result : Result A TxRefusal)
+    → ((voting : Voting) → OnErr (answer voting) (becomes voting ≡ voting))
+    → result ≡ answer_at (transaction_at registry tx) tx answer → new ≡ with_changed registry tx becomes → OnErr result (new ≡ registry)
+refused_same registry new tx becomes answer result same is led =
+    rw (is, led) (found_same registry tx becomes answer (transaction_at registry tx) refl same)

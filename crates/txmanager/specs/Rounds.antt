@@ -78,7 +78,8 @@ abbrev pub without_all : List ℕ → Votes → Votes
 without_all [] sub = sub
 without_all (voter ∷ voters) sub = without_all voters (without voter sub)
 
--- From the first to the last of n subtransactions: who is out of it is canceled in each later one.
+-- From the first to the last of n subtransactions: who is out of it is canceled in each later one
+-- that is not stopped.
 abbrev pub carried_over : ℕ → List Votes → List Votes
 carried_over zero subs = subs
 carried_over (suc n) [] = []

@@ -1,4 +1,4 @@
-//! Who is out of a subtransaction is canceled in each later one.
+//! Who is out of a subtransaction is canceled in each later one that is not stopped.
 
 ghost use Rattle.std.specs.Prelude.{◌≡◌, ◌∷◌, false, length, map};
 ghost use Rattle.std.specs.List.{AllByRecursion};
@@ -27,7 +27,7 @@ fn take_out(sub: &mut Sub, voter: u32)
     let _ = sub.cancel(voter);
 }
 
-// Cancels the voter in each of them.
+// Cancels the voter in each of them that is not stopped.
 fn take_out_of_each(later: &mut [Sub], voter: u32)
     requires { AllByRecursion (λ next. voted_in voter next ≡ false) later.old }
     ensures { later.new ≡ map (without voter) later.old }
@@ -37,7 +37,7 @@ fn take_out_of_each(later: &mut [Sub], voter: u32)
     }
 }
 
-// Cancels in each later one who is out of the earlier one.
+// Who is out of the earlier one is canceled in each later one that is not stopped.
 fn carry_into_each(earlier: &Sub, later: &mut [Sub])
     requires { IsChain (earlier.now ∷ later.old) }
     ensures { later.new ≡ map (without_all (out_of earlier.now)) later.old }

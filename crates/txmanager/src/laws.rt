@@ -1,14 +1,17 @@
 //! What is true of every list of acts on a transaction. A law is a function with nothing in it: what
 //! it ensures is proved for all values.
 
-ghost use Rattle.std.specs.Prelude.{◌≡◌, ◌≢◌, ℕ, ◌<◌, ◌≤◌, ◌⊎◌, true, List, ◌++◌, length, map, slice_get, Some};
+ghost use Rattle.std.specs.Prelude.{◌≡◌, ◌≢◌, ℕ, ◌<◌, ◌≤◌, ◌⊎◌, true, List, [], ◌++◌, length, map, slice_get, Some};
 ghost use Rattle.px_base.specs.declared.hash.Hash.{Hash};
 ghost use Rattle.px_base.specs.declared.ids.TxId.{TxId};
+ghost use Rattle.txmanager.specs.Calls.{AreOfPanels, Call, IsCastOn, all_called, poll_in};
 ghost use Rattle.txmanager.specs.Readings.{IsOutBefore, committed_at, is_canceled, is_out_at, outcome_in, stopped_back};
 ghost use Rattle.txmanager.specs.Registry.{Registry, transaction_at, with_changed, with_registered, without_transaction};
 ghost use Rattle.txmanager.specs.Rounds.{TxAct, after_act, after_acts, carried, current, opened, stopped};
+ghost use Rattle.txmanager.specs.Runs.{AreAcceptedActs, IsByRule, IsCastAmong};
 ghost use Rattle.txmanager.specs.Voting.{Voting};
 ghost use Rattle.voters.specs.Marks.{standing_weight};
+ghost use Rattle.voters.specs.Panel.{IsPanel};
 ghost use Rattle.voters.specs.Results.{committed_in, result_at, voted_in};
 ghost use Rattle.voters.specs.Rule.{IsPoll};
 ghost use Rattle.voters.specs.Votes.{Poll, Votes, after};
@@ -102,4 +105,25 @@ pub fn other_transactions_stay()
         ≡ transaction_at registry other }
     ensures closed { (registry : Registry) (tx other : TxId) → other ≢ tx
         → transaction_at (without_transaction registry tx) other ≡ transaction_at registry other }
+{}
+
+/// After every list of acts that are accepted, each subtransaction is one vote by the rule: a list of
+/// calls on it alone leads to it from its start, each of which it accepts, and its outcome and
+/// results are those that the rule says of their acts. Who casts among these calls cast by an act.
+/// The others are cancels and stops: those of the acts, and those of the carrying over.
+pub fn acts_come_to_votes_by_the_rule()
+    ensures { (poll : Poll) (n i : ℕ) (acts : List TxAct) (sub : Votes) → IsPoll poll
+        → AreAcceptedActs (opened poll n) acts
+        → slice_get (after_acts acts (opened poll n)) i ≡ Some sub
+        → IsByRule (IsCastAmong acts) poll sub }
+{}
+
+/// The same after every list of calls of the manager, refused or not, of each subtransaction of each
+/// transaction that is registered then. It is voted by the panel that was registered.
+pub fn calls_come_to_votes_by_the_rule()
+    ensures { (calls : List Call) (tx : TxId) (voting : Voting) (i : ℕ) (sub : Votes)
+        → AreOfPanels calls → transaction_at (all_called calls []) tx ≡ Some voting
+        → slice_get voting.subs i ≡ Some sub
+        → IsPanel voting.voters sub.threshold
+        × IsByRule (IsCastOn calls tx voting.voters) (poll_in voting sub) sub }
 {}

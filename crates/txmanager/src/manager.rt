@@ -1,10 +1,12 @@
 //! The transactions that are open, by their numbers.
 
-ghost use Rattle.std.specs.Prelude.{◌≡◌, [], None, IfSome, IfNone, MatchResult};
+ghost use Rattle.std.specs.Prelude.{◌≡◌, [], None, IfSome, IfNone, MatchResult, OnErr, OnOk};
+ghost use Rattle.txmanager.specs.Calls.{Call, called};
 ghost use Rattle.txmanager.specs.Registry.{answer_at, are_lawful_rounds, rounds_refusal, transaction_at};
 ghost use Rattle.txmanager.specs.Registry.{with_changed, with_registered, without_transaction};
 ghost use Rattle.txmanager.specs.VoterCalls.{after_cancel_voter, after_cast, cancel_voter_answer, cast_answer};
 ghost use Rattle.txmanager.specs.Voting.{after_cancel, after_stop, collect_answer, done, outcome_answer, stop_answer, voting_on};
+ghost use Rattle.voters.specs.Panel.{IsPanel};
 
 use crate::refusal::{RegisterRefusal, TxRefusal};
 use crate::transaction::Transaction;
@@ -26,7 +28,8 @@ pub fn are_lawful_rounds(rounds: u32) -> bool
 
 /// The transactions that are registered and not closed. A transaction is found by its number in
 /// logarithmic time. Only `register` takes memory; each other call leaves every transaction but the
-/// one that it names as it was.
+/// one that it names as it was. A refused call changes nothing. Refused or not, each is the call that
+/// the laws speak of (`call`).
 #[derive(Drop)]
 pub struct Manager {
     transactions: BTreeMap<u64, Transaction>,
@@ -65,6 +68,10 @@ impl Manager {
         ensures made { IfNone (rounds_refusal rounds) (MatchResult result
             (λ _. self.new ≡ with_registered self.old tx (voting_on panel.now rounds))
             (λ e. (e ≡ RegisterRefusal.Memory) × (self.new ≡ self.old))) }
+
+        // This is the call that the laws speak of, and each one registered is of a panel.
+        ensures call { OnOk result (self.new ≡ called self.old (Call.Register tx panel.now rounds)) }
+        ensures panel { OnOk result (IsPanel panel.now.voters panel.now.threshold) }
     {
         if !are_lawful_rounds(rounds) {
             return Err(RegisterRefusal::BadRounds { n: rounds });
@@ -93,19 +100,24 @@ impl Manager {
             (cast_answer voter.now phase hash.now) }
         ensures state { self.new
             ≡ with_changed self.old tx (after_cast voter.now phase hash.now) }
+        ensures same { OnErr result (self.new ≡ self.old) }
+        ensures call { self.new ≡ called self.old (Call.Cast tx voter.now phase hash.now) }
     {
         match self.transactions.get_mut(&tx.0) {
             Some(transaction) => transaction.cast(voter, phase, hash),
             None => Err(TxRefusal::UnknownTx(tx)),
         }
     }
-    /// Cancels a voter in its current subtransaction, and in each later one. Refused, in this order,
-    /// are `UnknownTx`, `NotAVoter`, `Finished`, `Canceled`, `Stopped`, and `Decided` where the voter
-    /// has failed.
+
+    /// Cancels a voter in its current subtransaction, and in each later one that is not stopped.
+    /// Refused, in this order, are `UnknownTx`, `NotAVoter`, `Finished`, `Canceled`, `Stopped`, and
+    /// `Decided` where the voter has failed.
     pub fn cancel_voter(&mut self, tx: TxId, voter: &StorageName) -> Result<(), TxRefusal>
         ensures answer { result ≡ answer_at (transaction_at self.old tx) tx
             (cancel_voter_answer voter.now) }
         ensures state { self.new ≡ with_changed self.old tx (after_cancel_voter voter.now) }
+        ensures same { OnErr result (self.new ≡ self.old) }
+        ensures call { self.new ≡ called self.old (Call.CancelVoter tx voter.now) }
     {
         match self.transactions.get_mut(&tx.0) {
             Some(transaction) => transaction.cancel_voter(voter),
@@ -118,6 +130,8 @@ impl Manager {
     pub fn cancel(&mut self, tx: TxId) -> Result<(), TxRefusal>
         ensures answer { result ≡ answer_at (transaction_at self.old tx) tx done }
         ensures state { self.new ≡ with_changed self.old tx after_cancel }
+        ensures same { OnErr result (self.new ≡ self.old) }
+        ensures call { self.new ≡ called self.old (Call.Cancel tx) }
     {
         match self.transactions.get_mut(&tx.0) {
             Some(transaction) => {
@@ -132,6 +146,8 @@ impl Manager {
     pub fn stop(&mut self, tx: TxId) -> Result<(), TxRefusal>
         ensures answer { result ≡ answer_at (transaction_at self.old tx) tx stop_answer }
         ensures state { self.new ≡ with_changed self.old tx after_stop }
+        ensures same { OnErr result (self.new ≡ self.old) }
+        ensures call { self.new ≡ called self.old (Call.Stop tx) }
     {
         match self.transactions.get_mut(&tx.0) {
             Some(transaction) => transaction.stop(),
@@ -165,6 +181,8 @@ impl Manager {
     pub fn close(&mut self, tx: TxId) -> Result<(), TxRefusal>
         ensures answer { result ≡ answer_at (transaction_at self.old tx) tx done }
         ensures state { self.new ≡ without_transaction self.old tx }
+        ensures same { OnErr result (self.new ≡ self.old) }
+        ensures call { self.new ≡ called self.old (Call.Close tx) }
     {
         match self.transactions.remove(&tx.0) {
             Some(_) => Ok(()),

@@ -1,10 +1,11 @@
 //! One transaction: who votes, by name, and its subtransactions.
 
-ghost use Rattle.std.specs.Prelude.{◌≡◌, ◌≤◌, IfOk};
+ghost use Rattle.std.specs.Prelude.{◌≡◌, ◌≤◌, IfOk, OnOk};
 ghost use Rattle.std.specs.Option.{option_copied};
 ghost use Rattle.txmanager.specs.Rounds.{opened};
 ghost use Rattle.txmanager.specs.VoterCalls.{after_cancel_voter, after_cast, cancel_voter_answer, cast_answer};
 ghost use Rattle.txmanager.specs.Voting.{after_cancel, after_stop, collect_answer, number_of, outcome_answer, stop_answer, sub_at, voting_on};
+ghost use Rattle.voters.specs.Panel.{IsPanel};
 
 use crate::refusal::TxRefusal;
 use crate::subs::{any_open, cancel_everywhere, cancel_in, cast_in, stop_in};
@@ -37,7 +38,8 @@ impl Transaction {
     /// A transaction without any act. Takes the room of all its votes.
     pub fn new(alloc: Global, panel: &Panel, rounds: u32) -> Result<Transaction, AllocError>
         requires { rounds ≤ 8 }
-        ensures { IfOk result (λ transaction. transaction ≡ voting_on panel.now rounds) }
+        ensures value { IfOk result (λ transaction. transaction ≡ voting_on panel.now rounds) }
+        ensures panel { OnOk result (IsPanel panel.now.voters panel.now.threshold) }
     {
         let voters = Vec::from_slice(alloc, panel.voters())?;
         let mut subs = Vec::with_capacity(alloc, 2 * rounds as usize)?;

@@ -55,7 +55,7 @@ called_threshold votes (call.Cancel v) = unless_threshold (cancel_refusal votes 
 called_threshold votes call.Cancel_all = run-threshold (map act.Cancel (undecided_voters votes)) votes
 called_threshold votes call.Stop = unless_threshold (stop_refusal votes) votes act.Stop
 
-all_threshold : (calls : List Call) (votes : Votes) → (all_called calls votes).threshold ≡ votes.threshold
+pub all_threshold : (calls : List Call) (votes : Votes) → (all_called calls votes).threshold ≡ votes.threshold
 all_threshold [] votes = refl
 all_threshold (c ∷ cs) votes = all_threshold cs (called votes c) ∙ called_threshold votes c
 

@@ -12,6 +12,7 @@ pub mod LostLemmas
 pub mod MarkLemmas
 pub mod OutcomeLemmas
 pub mod MarkRuleLemmas
+pub mod QuorumLemmas
 pub mod StepLemmas
 pub mod SubLemmas
 pub mod TallyLemmas

@@ -131,7 +131,7 @@ weights_from (w ∷ ws) i acts = rw (weights_from ws (i + 1) acts) refl
 pub total_of : (poll : Poll) (acts : List Act) → total_weight (marks_of poll acts) ≡ sum poll.weights
 total_of poll acts = sym (sum-map mark_weight (marks_of poll acts)) ∙ ap (λ (ws : List ℕ). sum ws) (weights_from poll.weights 0 acts)
 
-few : (poll : Poll) (acts : List Act) → IsPoll poll → total_weight (marks_of poll acts) < 2 * poll.threshold
+pub few : (poll : Poll) (acts : List Act) → IsPoll poll → total_weight (marks_of poll acts) < 2 * poll.threshold
 few poll acts is = omega (arith, total_of poll acts, is.most)
 
 fail_parts : (c : Option Hash) (l s : Bool) → decided c l s ≡ Fail → (c ≡ None) × (l ≡ true)

@@ -1,5 +1,5 @@
 -- Calls of a subtransaction, refused or not.
-use Rattle.std.specs.Prelude.{ℕ, List, [], ◌∷◌, ◌++◌, map, Option, None, Some}
+use Rattle.std.specs.Prelude.{◌≡◌, ℕ, List, [], ◌∷◌, ◌++◌, map, Option, None, Some}
 use Rattle.px_base.specs.declared.hash.Hash.{Hash}
 use Rattle.voters.specs.declared.act.Act.{Act}
 use Rattle.voters.specs.declared.act.Act.TheVariants as act
@@ -36,6 +36,18 @@ called votes Stop = unless_refused (stop_refusal votes) votes act.Stop
 abbrev pub all_called : List Call → Votes → Votes
 all_called [] votes = votes
 all_called (call ∷ calls) votes = all_called calls (called votes call)
+
+-- a call is accepted: nothing refuses it
+abbrev pub IsAccepted : Votes → Call → Type 0
+IsAccepted votes (Cast voter hash) = cast_refusal votes voter ≡ None
+IsAccepted votes (Cancel voter) = cancel_refusal votes voter ≡ None
+IsAccepted votes Cancel_all = Unit {0}
+IsAccepted votes Stop = stop_refusal votes ≡ None
+
+-- each of a list of calls is accepted as it comes
+abbrev pub AreAccepted : Votes → List Call → Type 0
+AreAccepted votes [] = Unit {0}
+AreAccepted votes (call ∷ calls) = IsAccepted votes call × AreAccepted (called votes call) calls
 
 -- the act, where nothing refuses it
 abbrev pub act_unless_refused : {E : Type 0} → Option E → Act → List Act

@@ -8,7 +8,7 @@ ghost use Rattle.voters.specs.MarkRule.{IsMarksOutcome, marks_of};
 ghost use Rattle.voters.specs.Marks.{open_weight, standing_weight};
 ghost use Rattle.voters.specs.Panel.{IsPanel, Roster, poll_of};
 ghost use Rattle.voters.specs.Results.{result_at};
-ghost use Rattle.voters.specs.Rule.{CastsOnce, IsOutcome, IsPoll, is_open, rule_result_at, stands, weight_open, weight_standing};
+ghost use Rattle.voters.specs.Rule.{CastsOnce, Commits, IsOutcome, IsPoll, is_open, rule_result_at, stands, weight_open, weight_standing};
 ghost use Rattle.voters.specs.Votes.{Poll, Votes, run, start};
 ghost use Rattle.voters.specs.declared.act.Act.{Act};
 
@@ -92,4 +92,15 @@ pub fn committed_hash_has_its_weight()
     ensures { (poll : Poll) (calls : List Call) (hash : Hash) → IsPoll poll
         → (all_called calls (start poll)).outcome ≡ Outcome.Commit hash
         → poll.threshold ≤ standing_weight hash (all_called calls (start poll)).marks }
+{}
+
+/// Standing votes of threshold weight name one hash at most at a time: after any list of acts in
+/// which no voter casts twice, and so after any list of calls.
+pub fn no_two_hashes_reach_the_threshold_at_once()
+    ensures acts { (poll : Poll) (acts : List Act) (one other : Hash) → IsPoll poll
+        → CastsOnce acts → Commits poll acts one → Commits poll acts other → one ≡ other }
+    ensures calls { (poll : Poll) (calls : List Call) (one other : Hash) → IsPoll poll
+        → poll.threshold ≤ standing_weight one (all_called calls (start poll)).marks
+        → poll.threshold ≤ standing_weight other (all_called calls (start poll)).marks
+        → one ≡ other }
 {}

@@ -7,7 +7,7 @@ use px_base::Hash;
 use std::marker::Model;
 
 /// A hash and the weight that stands for it in a panel. The threshold is above half of the total
-/// weight, so two hashes never reach it at once.
+/// weight, so standing votes never reach it for two hashes at once.
 #[derive(Clone, Copy, Debug, PartialEq, Eq)]
 pub struct Verdict {
     hash: Hash,

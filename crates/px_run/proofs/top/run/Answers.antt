@@ -1,5 +1,6 @@
 use Rattle.std.proofs.Common.{◌≡◌, refl, Some}
 use Rattle.script_run.specs.declared.run.RehearseEnd.TheVariants as end
+use Rattle.script_run.specs.Stream.{stream}
 use Rattle.px_run.specs.Run.{command}
 use Rattle.px_run.proofs.Said.{says_nothing}
 use Rattle.px_run.proofs.top.run.Goals as goal
@@ -11,7 +12,7 @@ returns-in-Done-clause-run g c =
       end = Some end.Done;
       ended = (words, c.in-Done.ensures.run);
       answers = refl;
-      says = says_nothing (g.E.Sink.taken c.args.err.now) (g.E.Sink.write_faults c.args.err.now);
+      says = says_nothing (stream (g.E.Sink.taken c.args.err.now) (g.E.Sink.write_faults c.args.err.now));
     }
 
 pub returns-in-BadLine-clause-run : goal.returns-in-BadLine-clause-run

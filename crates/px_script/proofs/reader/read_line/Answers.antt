@@ -1,10 +1,20 @@
 -- What the words of a line give is what the line asks.
+use Rattle.std.proofs.Common.{sym, ◌∙◌}
 use Rattle.std.proofs.lemmas.Bool.{iff_false}
-use Rattle.px_script.proofs.LineLemmas.{gives_reads}
+use Rattle.px_script.proofs.LineLemmas.{opening_lists, read_is_spelled, unasked}
 use Rattle.px_script.proofs.reader.read_line.Goals as goal
 
--- a line that is not silent asks for what its words give
-pub returns : goal.returns
-returns c =
-    gives_reads c.args.line.now c.read_event.result (iff_false c.is_silent.ensures c.if-is_silent.false)
-    c.read_event.ensures.gives c.read_event.ensures.memory
+-- an event that is read is spelled
+pub returns-in-Ok-Some : goal.returns-in-Ok-Some
+returns-in-Ok-Some c =
+    read_is_spelled c.in-Ok-Some.event c.args.line.now (sym c.in-Ok-Some.ensures.event ∙ c.in-Ok-Some.field-0-is)
+
+-- where none is read, a line that is not silent asks nothing
+pub returns-in-Ok-None : goal.returns-in-Ok-None
+returns-in-Ok-None c = λ asked asks.
+    unasked asked c.args.line.now (iff_false c.is_silent.ensures c.if-is_silent.false)
+    (sym c.in-Ok-None.ensures.event ∙ c.in-Ok-None.field-0-is) asks
+
+-- only an opening takes memory
+pub returns-in-Err : goal.returns-in-Err
+returns-in-Err c = opening_lists c.args.line.now c.in-Err.ensures.memory

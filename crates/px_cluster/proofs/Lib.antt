@@ -1,0 +1,11 @@
+mod Asking
+mod PushRows
+mod JobRows
+mod ClusterRows
+mod DeliveryRows
+mod OneCall
+mod OneRun
+mod Refusing
+mod LaterBooks
+mod Growing
+mod GrowingRuns

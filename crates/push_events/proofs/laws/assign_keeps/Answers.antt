@@ -1,0 +1,5 @@
+use Rattle.push_events.proofs.Create.{assign_keeps}
+use Rattle.push_events.proofs.laws.assign_keeps.Goals as goal
+
+pub returns : goal.returns
+returns c = assign_keeps

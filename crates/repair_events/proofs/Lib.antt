@@ -1,0 +1,5 @@
+pub mod FenceBegin
+pub mod FenceAnswer
+pub mod Missed
+pub mod Settle
+pub mod Accept

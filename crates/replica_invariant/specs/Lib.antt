@@ -1,0 +1,10 @@
+pub mod Booking
+pub mod Contents
+pub mod Purposes
+pub mod State
+pub mod ReplicaClauses
+pub mod Invariant
+pub mod Creations
+pub mod Pushes
+pub mod Jobs
+pub mod Repairs

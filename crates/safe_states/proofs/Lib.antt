@@ -1,0 +1,6 @@
+pub mod Reached
+pub mod SafeReplica
+pub mod SafePush
+pub mod Conditions
+pub mod PushExample
+pub mod RepairExample

@@ -1,0 +1,4 @@
+pub mod Happens
+pub mod Safe
+pub mod Conditions
+pub mod Examples

@@ -1,0 +1,10 @@
+mod Lists
+mod OneOf
+mod Places
+mod Induction
+mod AlikeBooks
+mod ApartPaths
+mod DenseBooks
+mod AssignedBooks
+mod BooksKept
+mod FormKept

@@ -1,0 +1,3 @@
+pub mod Always
+pub mod Books
+pub mod Form

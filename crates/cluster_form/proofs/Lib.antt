@@ -7,4 +7,7 @@ mod ApartPaths
 mod DenseBooks
 mod AssignedBooks
 mod BooksKept
+mod JobLists
+mod PlannedJobs
+mod JobsKept
 mod FormKept

@@ -1,3 +1,4 @@
 pub mod Always
 pub mod Books
+pub mod Jobs
 pub mod Form

@@ -10,4 +10,8 @@ mod BooksKept
 mod JobLists
 mod PlannedJobs
 mod JobsKept
+mod Registries
+mod Panels
+mod TurnLists
+mod TurnsKept
 mod FormKept

@@ -1,0 +1,35 @@
+-- Each move keeps the form of the data, and so it is there after every list of moves.
+use Rattle.std.proofs.Common.{◌≡◌, None}
+use Rattle.px_ops.specs.declared.op.Op.{Op}
+use Rattle.px_cluster.specs.Core.{Core, empty, restarted}
+use Rattle.px_cluster.specs.Ops.{left_by, refusal_of}
+use Rattle.cluster_form.specs.Always.{HoldsAlways, IsKept}
+use Rattle.cluster_form.specs.Form.{HasForm, IsFormed}
+use Rattle.cluster_form.proofs.BooksKept.{books_again, books_left, no_books}
+use Rattle.cluster_form.proofs.Induction.{always, core_kept}
+use Rattle.cluster_form.proofs.JobsKept.{jobs_again, jobs_left, no_jobs}
+use Rattle.cluster_form.proofs.TurnsKept.{no_turns, turns_again, turns_left}
+
+left : (core : Core) (asked : Op) → refusal_of core asked ≡ None → IsFormed core
+    → IsFormed (left_by core asked)
+left core asked none form = record {
+  books = books_left core asked none form.books;
+  jobs = jobs_left core asked form.books.dense form.jobs;
+  turns = turns_left core asked none form.books.dense form.turns;
+}
+
+again : (core : Core) → IsFormed core → IsFormed (restarted core)
+again core form = record {
+  books = books_again core form.books;
+  jobs = jobs_again core form.jobs;
+  turns = turns_again core form.turns;
+}
+
+at_first : IsFormed empty
+at_first = record { books = no_books; jobs = no_jobs; turns = no_turns }
+
+pub form_kept : IsKept HasForm
+form_kept = core_kept IsFormed left again
+
+pub form_always : HoldsAlways HasForm
+form_always = always HasForm form_kept (λ node. at_first)

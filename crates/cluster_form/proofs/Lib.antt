@@ -1,0 +1,17 @@
+mod Lists
+mod OneOf
+mod Places
+mod Induction
+mod AlikeBooks
+mod ApartPaths
+mod DenseBooks
+mod AssignedBooks
+mod BooksKept
+mod JobLists
+mod PlannedJobs
+mod JobsKept
+mod Registries
+mod Panels
+mod TurnLists
+mod TurnsKept
+mod FormKept

@@ -1,0 +1,15 @@
+-- The form of the data of a cluster.
+use Rattle.px_cluster.specs.Cluster.{Cluster}
+use Rattle.px_cluster.specs.Core.{Core}
+use Rattle.cluster_form.specs.Books.{AreBooks}
+use Rattle.cluster_form.specs.Jobs.{AreJobs}
+use Rattle.cluster_form.specs.Turns.{AreTurns}
+
+-- the book, the queue, and transactions and turns are as they should be
+pub record IsFormed (core : Core) : Type 0 where
+  pub books : AreBooks core
+  pub jobs : AreJobs core
+  pub turns : AreTurns core
+
+abbrev pub HasForm : Cluster → Type 0
+HasForm cluster = IsFormed cluster.core

@@ -1,0 +1,5 @@
+pub mod Always
+pub mod Books
+pub mod Jobs
+pub mod Turns
+pub mod Form

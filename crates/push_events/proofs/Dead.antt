@@ -19,25 +19,40 @@ dead_live r d = record {
 }
 
 -- the lease of the push is the kept one and nothing was issued under it
-pub quiet_dead : (sh : Shared) (r : Replica) (l : ℕ) → LeaseClause sh r → r.kept ≡ l → QuietBelow r l → effect (r.purpose l) ≡ None → Dead r
+pub quiet_dead : (sh : Shared) (r : Replica) (l : ℕ) → LeaseClause sh r → r.kept ≡ l
+    → QuietBelow r l → effect (r.purpose l) ≡ None → Dead r
 quiet_dead sh r l h e q x k a =
     elim (three k l) [
       | inl lt ↦ q k a lt
-      | inr w ↦ elim w [ inl eq ↦ subst (λ i. effect (r.purpose i) ≡ None) (sym eq) x | inr gt ↦ ap effect (h.drawn k (omega (arith, gt, e))) ]
+      | inr w ↦
+          elim w [
+            | inl eq ↦ subst (λ i. effect (r.purpose i) ≡ None) (sym eq) x
+            | inr gt ↦ ap effect (h.drawn k (omega (arith, gt, e)))
+          ]
     ]
 
 -- the shared lemma Dead: a fence above the kept lease leaves nothing live
 pub fenced_dead : (sh : Shared) (r : Replica) → LeaseClause sh r → r.kept < r.node.fence → Dead r
 fenced_dead sh r h lt k a = ap effect (h.drawn k (omega (arith, lt, a)))
 
-pub used_named : (sh : Shared) (r : Replica) → LeaseClause sh r → (l : ℕ) → (r.purpose l ≡ Unused → ⊥) → l ≤ r.kept
-used_named sh r h l u = elim (three r.kept l) [ inl lt ↦ absurd (u (h.drawn l lt)) | inr w ↦ elim w [ inl e ↦ omega (arith, e) | inr gt ↦ omega (arith, gt) ] ]
+pub used_named : (sh : Shared) (r : Replica) → LeaseClause sh r → (l : ℕ)
+    → (r.purpose l ≡ Unused → ⊥) → l ≤ r.kept
+used_named sh r h l u =
+    elim (three r.kept l) [
+      | inl lt ↦ absurd (u (h.drawn l lt))
+      | inr w ↦ elim w [ inl e ↦ omega (arith, e) | inr gt ↦ omega (arith, gt) ]
+    ]
 
 -- the shared lemma Current: At(newest) has the level newest and nothing live
-module _ (sh : Shared) (r : Replica) (h : ReplicaClauses sh r) (current : r.booking ≡ At sh.newest) where
+module _ (sh : Shared) (r : Replica) (h : ReplicaClauses sh r)
+    (current : r.booking ≡ At sh.newest) where
   current_level_of : (o : Option ℕ) → r.level ≡ o → r.level ≡ Some sh.newest
-  current_level_of None e = absurd (let z : At sh.newest ≡ Absent = sym current ∙ h.node.bare e in cc)
-  current_level_of (Some k) e = let v = h.node.level k e in e ∙ ap Some (let z : k ≡ sh.newest = omega (arith, v.newest, v.floor sh.newest (h.book.at sh.newest current)) in z)
+  current_level_of None e =
+      absurd (let z : At sh.newest ≡ Absent = sym current ∙ h.node.bare e in cc)
+  current_level_of (Some k) e = let v = h.node.level k e in
+      e ∙ ap Some
+      (let z : k ≡ sh.newest =
+      omega (arith, v.newest, v.floor sh.newest (h.book.at sh.newest current)) in z)
 
   pub current_level : r.level ≡ Some sh.newest
   current_level = current_level_of r.level refl
@@ -51,13 +66,18 @@ module _ (sh : Shared) (r : Replica) (h : ReplicaClauses sh r) (current : r.book
   current_not k (Apply g) q f = omega (arith, f.at sh.newest current, h.book.applies k g q)
   current_not k Remove q f = let z : At sh.newest ≡ Absent = sym current ∙ f.booking in cc
 
-  current_dead_of : (k : ℕ) → r.node.fence ≤ k → (o : Option Effect) → effect (r.purpose k) ≡ o → effect (r.purpose k) ≡ None
+  current_dead_of : (k : ℕ) → r.node.fence ≤ k → (o : Option Effect) → effect (r.purpose k) ≡ o
+      → effect (r.purpose k) ≡ None
   current_dead_of k a None e = e
   current_dead_of k a (Some y) e = absurd (current_not k y e (h.live.fits k y a e))
 
   pub current_idle : DoesNotRun r
   current_idle j l a b = let v = (h.job j a).running l b in elim (bool j.update) [
-    | inl e ↦ v.at e (current ∙ ap At (let z : sh.newest ≡ j.generation = omega (arith, (h.job j a).generation, v.low e sh.newest (h.book.at sh.newest current)) in z))
+    | inl e ↦
+        v.at e (current
+        ∙ ap At (let z : sh.newest ≡ j.generation =
+        omega (arith, (h.job j a).generation, v.low e sh.newest (h.book.at sh.newest current)) in
+        z))
     | inr e ↦ let z : At sh.newest ≡ Absent = sym current ∙ v.absent e in cc
   ]
 

@@ -13,15 +13,23 @@ abbrev pub in_doubt : Replica → ℕ → ℕ → Replica
 in_doubt r l n = record r { booking = Doubt l n (n + 1) }
 
 module _ (sh : Shared) (r : Replica) (l n : ℕ) (h : ReplicaClauses sh r)
-    (kept : r.kept ≡ l) (quiet : QuietBelow r l) (booking : r.booking ≡ At n) (level : r.level ≡ Some n)
+    (kept : r.kept ≡ l) (quiet : QuietBelow r l) (booking : r.booking ≡ At n)
+    (level : r.level ≡ Some n)
     (committed : r.node.committed ≡ Some l → ⊥) (purpose : r.purpose l ≡ Pushing n None false)
     (newest : n + 1 ≤ sh.newest) (entry : (sh.entry (n + 1)).lease ≡ Some l) where
   in_doubt_book : BookingClause sh (in_doubt r l n)
   in_doubt_book = record {
     floor = h.book.floor;
     at = λ g e. cc;
-    doubt = λ l2 w d e. at_doubt (λ x y z. DoubtBooking sh (in_doubt r l n) x y z) l n (n + 1) l2 w d e
-        (record { floor = h.book.at n booking; next = refl; newest = newest; lease = entry; purpose = (None, false, purpose) });
+    doubt = λ l2 w d e. at_doubt (λ x y z. DoubtBooking sh (in_doubt r l n) x y z) l n
+        (n + 1) l2 w d e
+        (record {
+          floor = h.book.at n booking;
+          next = refl;
+          newest = newest;
+          lease = entry;
+          purpose = (None, false, purpose);
+        });
     applies = h.book.applies;
   }
 
@@ -32,7 +40,8 @@ module _ (sh : Shared) (r : Replica) (l n : ℕ) (h : ReplicaClauses sh r)
     answered = λ k a. let o = h.commit.answered k a in record {
       issued = o.issued;
       fence = o.fence;
-      doubt = λ w d e. let f : is_committed (r.purpose l) ≡ true = subst (λ x. is_committed (r.purpose x) ≡ true) (let q : k ≡ l = cc in q) a in
+      doubt = λ w d e. let f : is_committed (r.purpose l) ≡ true =
+          subst (λ x. is_committed (r.purpose x) ≡ true) (let q : k ≡ l = cc in q) a in
           absurd (let z : false ≡ true = sym (ap is_committed purpose) ∙ f in cc);
     };
   }
@@ -40,10 +49,23 @@ module _ (sh : Shared) (r : Replica) (l n : ℕ) (h : ReplicaClauses sh r)
   pub in_doubt_ok : ReplicaClauses sh (in_doubt r l n)
   in_doubt_ok = record {
     book = in_doubt_book;
-    lease = record { kept = h.lease.kept; zero = h.lease.zero; drawn = h.lease.drawn; fence = h.lease.fence; committed = h.lease.committed };
+    lease = record {
+      kept = h.lease.kept;
+      zero = h.lease.zero;
+      drawn = h.lease.drawn;
+      fence = h.lease.fence;
+      committed = h.lease.committed;
+    };
     node = record {
       bare = λ e. none_some (Doubt l n (n + 1) ≡ Absent) (sym e ∙ level);
-      level = λ k e. let v = h.node.level k e in record { held = v.held; had = v.had; newest = v.newest; floor = v.floor; content = v.content };
+      level = λ k e. let v = h.node.level k e in
+          record {
+            held = v.held;
+            had = v.had;
+            newest = v.newest;
+            floor = v.floor;
+            content = v.content;
+          };
       early = h.node.early;
     };
     live = dead_live (in_doubt r l n) (quiet_dead sh r l h.lease kept quiet (ap effect purpose));
@@ -61,10 +83,12 @@ module _ (sh : Shared) (r : Replica) (l n : ℕ) (h : ReplicaClauses sh r)
     };
     copy = h.copy;
     fencing = h.fencing;
-    job = idle_job sh r r.kept r.purpose (Doubt l n (n + 1)) r.floor h (idle_by sh r l h kept (ap is_job purpose)) (λ x. x);
+    job = idle_job sh r r.kept r.purpose (Doubt l n (n + 1)) r.floor h
+        (idle_by sh r l h kept (ap is_job purpose)) (λ x. x);
   }
 
-  pub in_doubt_told : (p : OpenPush) (c : Bool) → p.lease ≡ l → p.begun ≡ n → (p.decided ≡ None → ⊥) → MemberClause p true c (in_doubt r l n)
+  pub in_doubt_told : (p : OpenPush) (c : Bool) → p.lease ≡ l → p.begun ≡ n → (p.decided ≡ None → ⊥)
+      → MemberClause p true c (in_doubt r l n)
   in_doubt_told p c el en d = record {
     kept = kept ∙ sym el;
     purpose = (None, false, rw (el, en) purpose);
@@ -74,6 +98,8 @@ module _ (sh : Shared) (r : Replica) (l n : ℕ) (h : ReplicaClauses sh r)
   }
 
 -- what the doubt of the code says, where the generation before is known
-pub doubted_is : (P : Replica → Type 0) (r : Replica) (l n d : ℕ) → r.booking ≡ At n → d ≡ n + 1 → P (in_doubt r l n) → P (record r { booking = Doubt l (generation r.booking) d })
+pub doubted_is : (P : Replica → Type 0) (r : Replica) (l n d : ℕ) → r.booking ≡ At n → d ≡ n + 1
+    → P (in_doubt r l n) → P (record r { booking = Doubt l (generation r.booking) d })
 doubted_is P r l n d b e h =
-    subst (λ x. P (record r { booking = Doubt l (generation x) d })) (sym b) (subst (λ x. P (record r { booking = Doubt l n x })) (sym e) h)
+    subst (λ x. P (record r { booking = Doubt l (generation x) d })) (sym b)
+    (subst (λ x. P (record r { booking = Doubt l n x })) (sym e) h)

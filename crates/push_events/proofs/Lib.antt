@@ -9,6 +9,7 @@ pub mod Draw
 pub mod Changed
 pub mod OneReplica
 pub mod Decide
+pub mod Filled
 pub mod Commit
 pub mod Begin
 pub mod Confirm
@@ -17,3 +18,4 @@ pub mod Small
 pub mod Issue
 pub mod Make
 pub mod Create
+pub mod Storages

@@ -13,7 +13,8 @@ use Rattle.push_events.proofs.Purposes.{IsPush, push_over, IsUpdate, job_over}
 use Rattle.push_events.proofs.Raise.{fenced, raised_member, raised_ok}
 use Rattle.push_events.proofs.Values.{none_some, value_case}
 
-module _ (sh : Shared) (r : Replica) (l : ℕ) (x : Option (Option ℕ)) (h : ReplicaClauses sh r) (purpose : r.purpose l ≡ Fencing x) (reach : l ≤ r.node.fence) where
+module _ (sh : Shared) (r : Replica) (l : ℕ) (x : Option (Option ℕ)) (h : ReplicaClauses sh r)
+    (purpose : r.purpose l ≡ Fencing x) (reach : l ≤ r.node.fence) where
   abbrev c : Purpose
   c = Fencing (Some r.node.committed)
 
@@ -33,10 +34,14 @@ module _ (sh : Shared) (r : Replica) (l : ℕ) (x : Option (Option ℕ)) (h : Re
   creation = sym (ap is_creation purpose)
 
   effects : (y : ℕ) → effect (r'.purpose y) ≡ effect (r.purpose y)
-  effects y = value_case (λ v d. effect d ≡ effect (r.purpose v)) r.purpose l c y (sym (ap effect purpose)) (λ z. refl)
+  effects y =
+      value_case (λ v d. effect d ≡ effect (r.purpose v)) r.purpose l c y (sym (ap effect purpose))
+      (λ z. refl)
 
   acks : (y : ℕ) → is_committed (r'.purpose y) ≡ true → is_committed (r.purpose y) ≡ true
-  acks y = value_case (λ v d. is_committed d ≡ true → is_committed (r.purpose v) ≡ true) r.purpose l c y (λ q. absurd (let z : false ≡ true = q in cc)) (λ z q. q)
+  acks y =
+      value_case (λ v d. is_committed d ≡ true → is_committed (r.purpose v) ≡ true) r.purpose l c y
+      (λ q. absurd (let z : false ≡ true = q in cc)) (λ z q. q)
 
   refit : (y : ℕ) (e : Effect) → FitsEffect r y e → FitsEffect r' y e
   refit y Create f = f
@@ -50,10 +55,17 @@ module _ (sh : Shared) (r : Replica) (l : ℕ) (x : Option (Option ℕ)) (h : Re
       floor = h.book.floor;
       at = h.book.at;
       applies = λ y z e. h.book.applies y z (sym (effects y) ∙ e);
-      doubt = λ y w d e. let v = h.book.doubt y w d e in record { floor = v.floor; next = v.next; newest = v.newest; lease = v.lease; purpose = re_push sh r l c h used push back creation y w v.purpose };
+      doubt = λ y w d e. let v = h.book.doubt y w d e in
+          record { floor = v.floor; next = v.next; newest = v.newest; lease = v.lease;
+          purpose = re_push sh r l c h used push back creation y w v.purpose };
     };
-    lease = record { kept = h.lease.kept; zero = re_zero sh r l c h used push back creation; drawn = re_drawn sh r l c h used push back creation; fence = h.lease.fence; committed = h.lease.committed };
-    node = record { bare = h.node.bare; early = h.node.early; level = λ y e. let v = h.node.level y e in record { held = v.held; had = v.had; newest = v.newest; floor = v.floor; content = v.content } };
+    lease = record { kept = h.lease.kept; zero = re_zero sh r l c h used push back creation;
+        drawn = re_drawn sh r l c h used push back creation; fence = h.lease.fence;
+        committed = h.lease.committed };
+    node = record { bare = h.node.bare; early = h.node.early;
+        level = λ y e. let v = h.node.level y e in
+        record { held = v.held; had = v.had; newest = v.newest; floor = v.floor;
+        content = v.content } };
     live = record {
       fits = λ y e b q. refit y e (h.live.fits y e b (sym (effects y) ∙ q));
       doubt = λ y w d e n b q. effects n ∙ h.live.doubt y w d e n b q;
@@ -62,7 +74,8 @@ module _ (sh : Shared) (r : Replica) (l : ℕ) (x : Option (Option ℕ)) (h : Re
     commit = record {
       begun = re_begun sh r l c h used push back creation;
       issued = λ y n z e. h.commit.issued y n z (sym (effects y) ∙ e);
-      answered = λ y e. let v = h.commit.answered y (acks y e) in record { issued = λ z. v.issued (sym (effects y) ∙ z); fence = v.fence; doubt = v.doubt };
+      answered = λ y e. let v = h.commit.answered y (acks y e) in
+          record { issued = λ z. v.issued (sym (effects y) ∙ z); fence = v.fence; doubt = v.doubt };
     };
     doubt = record { early = h.doubt.early; late = h.doubt.late };
     ready = h.ready;
@@ -70,16 +83,34 @@ module _ (sh : Shared) (r : Replica) (l : ℕ) (x : Option (Option ℕ)) (h : Re
       creating = re_creating sh r l c h used push back creation;
       early = re_early sh r l c h used push back creation;
       fresh = h.create.fresh;
-      made = λ y e. let v = h.create.made y (value_case (λ v d. d ≡ Creation true → r.purpose v ≡ Creation true) r.purpose l c y (λ q. absurd (let z : Fencing (Some r.node.committed) ≡ Creation true = q in cc)) (λ z q. q) e) in record { fence = v.fence; level = v.level };
+      made = λ y e. let v =
+          h.create.made y
+          (value_case (λ v d. d ≡ Creation true → r.purpose v ≡ Creation true) r.purpose l c y
+          (λ q. absurd (let z : Fencing (Some r.node.committed) ≡ Creation true = q in cc))
+          (λ z q. q) e) in record { fence = v.fence; level = v.level };
     };
     copy = record {
-      snapshot = λ y s g m k w. value_case (λ v d. d ≡ Updating s g (Some (m, k)) w → IsSnapshot sh g m k) r.purpose l c y (λ q. absurd (let z : Fencing (Some r.node.committed) ≡ Updating s g (Some (m, k)) w = q in cc)) (λ z q. h.copy.snapshot y s g m k w q);
-      answered = λ y s g o. value_case (λ v d. d ≡ Updating s g o true → r.kept ≡ v → IsApplied r.node.fence r.level v g) r.purpose l c y (λ q w. absurd (let z : Fencing (Some r.node.committed) ≡ Updating s g o true = q in cc)) (λ z q w. h.copy.answered y s g o q w);
+      snapshot =
+          λ y s g m k w. value_case
+          (λ v d. d ≡ Updating s g (Some (m, k)) w → IsSnapshot sh g m k) r.purpose l c y
+          (λ q. absurd
+          (let z : Fencing (Some r.node.committed) ≡ Updating s g (Some (m, k)) w = q in cc))
+          (λ z q. h.copy.snapshot y s g m k w q);
+      answered =
+          λ y s g o. value_case
+          (λ v d. d ≡ Updating s g o true → r.kept ≡ v
+          → IsApplied r.node.fence r.level v g) r.purpose l c y
+          (λ q w. absurd (let z : Fencing (Some r.node.committed) ≡ Updating s g o true = q in cc))
+          (λ z q w. h.copy.answered y s g o q w);
     };
     fencing = record {
-      reached = λ y o. value_case (λ v d. d ≡ Fencing (Some o) → v ≤ r.node.fence) r.purpose l c y (λ q. reach) (λ z q. h.fencing.reached y o q);
-      same = λ y o. value_case (λ v d. d ≡ Fencing (Some o) → r.kept ≡ v → r.node.committed ≡ o) r.purpose l c y
-          (λ q w. let z : Fencing (Some r.node.committed) ≡ Fencing (Some o) = q in cc) (λ z q w. h.fencing.same y o q w);
+      reached =
+          λ y o. value_case (λ v d. d ≡ Fencing (Some o) → v ≤ r.node.fence) r.purpose l c y
+          (λ q. reach) (λ z q. h.fencing.reached y o q);
+      same = λ y o. value_case
+          (λ v d. d ≡ Fencing (Some o) → r.kept ≡ v → r.node.committed ≡ o) r.purpose l c y
+          (λ q w. let z : Fencing (Some r.node.committed) ≡ Fencing (Some o) = q in cc)
+              (λ z q w. h.fencing.same y o q w);
     };
     job = job_over sh r l c h (ap is_job purpose);
   }
@@ -93,18 +124,29 @@ module _ (sh : Shared) (r : Replica) (l : ℕ) (x : Option (Option ℕ)) (h : Re
       decided = v.decided;
       booking = elim v.booking [
         | inl z ↦ inl z
-        | inr z ↦ inr (z.0, value_case (λ v w. is_committed (r.purpose v) ≡ true → is_committed w ≡ true) r.purpose l c p.lease (λ q. absurd (let u : false ≡ true = sym (ap is_committed purpose) ∙ q in cc)) (λ n q. q) z.1, z.2)
+        | inr z ↦
+            inr (z.0,
+            value_case
+            (λ v w. is_committed (r.purpose v) ≡ true → is_committed w ≡ true) r.purpose l c p.lease
+            (λ q. absurd (let u : false ≡ true = sym (ap is_committed purpose) ∙ q in cc))
+            (λ n q. q) z.1, z.2)
       ];
     };
     untold = λ e. let v = d.untold e in record {
       booking = v.booking;
       level = v.level;
       committed = v.committed;
-      purpose = value_case (λ u w. r.purpose u ≡ Pushing p.begun None false → w ≡ Pushing p.begun None false) r.purpose l c p.lease (λ q. absurd (let z : Fencing x ≡ Pushing p.begun None false = sym purpose ∙ q in cc)) (λ n q. q) v.purpose;
+      purpose =
+          value_case
+          (λ u w. r.purpose u ≡ Pushing p.begun None false
+          → w ≡ Pushing p.begun None false) r.purpose l c p.lease
+          (λ q. absurd (let z : Fencing x ≡ Pushing p.begun None false = sym purpose ∙ q in cc))
+          (λ n q. q) v.purpose;
     };
   }
 
-module _ (st : State) (t l f : ℕ) (o : Option ReadyPush) (i : Invariant st) (c2 : CanAnswer (st.replica t) l f o) where
+module _ (st : State) (t l f : ℕ) (o : Option ReadyPush) (i : Invariant st)
+    (c2 : CanAnswer (st.replica t) l f o) where
   abbrev w : Replica
   w = st.replica t
 
@@ -112,15 +154,19 @@ module _ (st : State) (t l f : ℕ) (o : Option ReadyPush) (i : Invariant st) (c
   sh2 = st.shared
 
   named : l ≤ w.kept
-  named = used_named sh2 w (i.replicas t).lease l (λ e. absurd (let z : Unused ≡ Fencing (c2.purpose.0) = sym e ∙ c2.purpose.1 in cc))
+  named = used_named sh2 w (i.replicas t).lease l
+      (λ e. absurd (let z : Unused ≡ Fencing (c2.purpose.0) = sym e ∙ c2.purpose.1 in cc))
 
   bound : w.had ≡ true → f ≤ w.kept + 1
-  bound e = elim c2.least [ inl q ↦ omega (arith, q, named) | inr q ↦ omega (arith, q, (i.replicas t).lease.fence e) ]
+  bound e =
+      elim c2.least [ inl q ↦ omega (arith, q, named)
+      | inr q ↦ omega (arith, q, (i.replicas t).lease.fence e) ]
 
   ready : (p : ReadyPush) → o ≡ Some p → ReadyClause sh2 (fenced w f o).node p
   ready p e = elim c2.ready_ [
     | inl n ↦ none_some (ReadyClause sh2 (fenced w f o).node p) (sym n ∙ e)
-    | inr q ↦ let v = (i.replicas t).ready p (sym q.0 ∙ e) in record { held = v.held; fence = q.1 ∙ v.fence; content = v.content; text = v.text }
+    | inr q ↦ let v = (i.replicas t).ready p (sym q.0 ∙ e) in
+        record { held = v.held; fence = q.1 ∙ v.fence; content = v.content; text = v.text }
   ]
 
   fence_raised : ReplicaClauses sh2 (fenced w f o)
@@ -129,11 +175,21 @@ module _ (st : State) (t l f : ℕ) (o : Option ReadyPush) (i : Invariant st) (c
   keeps : Invariant (record st { replica = with_value st.replica t (fence_answered w l f o) })
   keeps = replica_event st sh2 t (fence_answered w l f o) i (later_self sh2) refl refl i.log
       (answered_ok sh2 (fenced w f o) l (c2.purpose.0) fence_raised c2.purpose.1 c2.reach)
-      (λ q. absurd (let z : Unused ≡ Fencing (c2.purpose.0) = sym (q.purpose l) ∙ c2.purpose.1 in cc)) refl refl refl
-      (λ k a n. value_case (λ v d. IsUpdate d a n → IsUpdate (w.purpose v) a n) w.purpose l (Fencing (Some w.node.committed)) k (λ q. absurd (let z : Fencing (Some w.node.committed) ≡ Updating a n (q.0) (q.1) = q.2 in cc)) (λ z q. q))
-      (push_over w.purpose l (Fencing (Some w.node.committed)) (λ n q. absurd (let z : Fencing (Some w.node.committed) ≡ Pushing n (q.0) (q.1) = q.2 in cc)))
-      (λ p e m. answered_member sh2 (fenced w f o) l (c2.purpose.0) fence_raised c2.purpose.1 c2.reach p (p.told t) (p.cast t)
-      (raised_member sh2 w f o (i.replicas t) c2.up bound ready p (p.told t) (p.cast t) ((i.turn p e).member t m)))
+      (λ q. absurd
+          (let z : Unused ≡ Fencing (c2.purpose.0) = sym (q.purpose l) ∙ c2.purpose.1 in
+          cc)) refl refl refl
+      (λ k a n. value_case (λ v d. IsUpdate d a n → IsUpdate (w.purpose v) a n) w.purpose l
+          (Fencing (Some w.node.committed)) k
+          (λ q. absurd
+          (let z : Fencing (Some w.node.committed) ≡ Updating a n (q.0) (q.1) = q.2 in cc))
+          (λ z q. q))
+      (push_over w.purpose l (Fencing (Some w.node.committed))
+          (λ n q. absurd
+          (let z : Fencing (Some w.node.committed) ≡ Pushing n (q.0) (q.1) = q.2 in cc)))
+      (λ p e m. answered_member sh2 (fenced w f o) l
+          (c2.purpose.0) fence_raised c2.purpose.1 c2.reach p (p.told t) (p.cast t)
+      (raised_member sh2 w f o (i.replicas t) c2.up bound ready p (p.told t) (p.cast t)
+          ((i.turn p e).member t m)))
 
 pub fence_answer_keeps : FenceAnswerKeeps
 fence_answer_keeps st t l f o i c = keeps st t l f o i c

@@ -36,12 +36,15 @@ created state chosen = record state {
 
 -- it was on record before
 abbrev pub CreateKeeps : Type 0
-CreateKeeps = (state : State) (chosen : ℕ → Bool) → Invariant state → CanCreate state chosen → Invariant (created state chosen)
+CreateKeeps = (state : State) (chosen : ℕ → Bool) → Invariant state → CanCreate state chosen
+    → Invariant (created state chosen)
 
 -- What a node has of a repository that is not on record is what calls made of an empty one.
 pub record IsFromBefore (node : AtNode) (text : ℕ → Vote → Updates) : Type 0 where
   pub committed : (lease : ℕ) → node.committed ≡ Some lease → lease < node.fence
-  pub ready : (push : ReadyPush) → node.ready ≡ Some push → (node.held ≡ true) × (node.fence ≡ push.lease) × (push.content ≡ after node.refs push.updates) × (push.updates ≡ text push.lease (vote push.updates))
+  pub ready : (push : ReadyPush) → node.ready ≡ Some push → (node.held ≡ true)
+      × (node.fence ≡ push.lease) × (push.content ≡ after node.refs push.updates)
+      × (push.updates ≡ text push.lease (vote push.updates))
 
 -- a repository that comes on record, over what the nodes have of it
 abbrev pub opening : (ℕ → AtNode) → (ℕ → Vote → Updates) → ℕ → State
@@ -69,8 +72,10 @@ opening node text admitted = record {
 }
 
 abbrev pub FirstCreateKeeps : Type 0
-FirstCreateKeeps = (node : ℕ → AtNode) (text : ℕ → Vote → Updates) (admitted : ℕ) (chosen : ℕ → Bool)
-    → ((storage : ℕ) → IsFromBefore (node storage) text) → CanCreate (opening node text admitted) chosen
+FirstCreateKeeps =
+    (node : ℕ → AtNode) (text : ℕ → Vote → Updates) (admitted : ℕ) (chosen : ℕ → Bool)
+    → ((storage : ℕ) → IsFromBefore (node storage) text)
+        → CanCreate (opening node text admitted) chosen
     → Invariant (created (opening node text admitted) chosen)
 
 -- ---- a create is delivered; `answered` says whether its answer is kept
@@ -111,13 +116,18 @@ abbrev pub enrolled : Replica → Replica
 enrolled replica = record replica { booking = At 0; floor = Some 0 }
 
 abbrev pub EnrolKeeps : Type 0
-EnrolKeeps = (state : State) (storage : ℕ) → Invariant state → CanEnrol state.shared (state.replica storage) → Invariant (with_replica state storage (enrolled (state.replica storage)))
+EnrolKeeps = (state : State) (storage : ℕ) → Invariant state
+    → CanEnrol state.shared (state.replica storage)
+    → Invariant (with_replica state storage (enrolled (state.replica storage)))
 
 -- ---- a storage is admitted; the factor assigns other storages
 
 abbrev pub AdmitKeeps : Type 0
-AdmitKeeps = (state : State) → Invariant state → Invariant (record state { admitted = state.admitted + 1 })
+AdmitKeeps = (state : State) → Invariant state
+    → Invariant (record state { admitted = state.admitted + 1 })
 
 abbrev pub AssignKeeps : Type 0
-AssignKeeps = (state : State) (chosen : ℕ → Bool) → Invariant state → ((storage : ℕ) × (chosen storage ≡ true))
-    → ((storage : ℕ) → state.admitted ≤ storage → chosen storage ≡ false) → Invariant (record state { assigned = chosen })
+AssignKeeps = (state : State) (chosen : ℕ → Bool) → Invariant state
+    → ((storage : ℕ) × (chosen storage ≡ true))
+    → ((storage : ℕ) → state.admitted ≤ storage → chosen storage ≡ false)
+        → Invariant (record state { assigned = chosen })

@@ -1,4 +1,5 @@
--- What a lease was drawn for at a storage, which effect was issued under it, and which answer is kept.
+-- What a lease was drawn for at a storage, which effect was issued under it, and which answer is
+-- kept.
 use Rattle.std.specs.Prelude.{ℕ, Option, Some, None, Bool, true, false}
 use Rattle.replica_invariant.specs.Contents.{Content, Vote}
 
@@ -10,8 +11,8 @@ pub data Purpose : Type 0 where
   -- a push that began at a generation; the hash of the commit that was issued, and whether the node
   -- answered it with a vote
   Pushing : (begun : ℕ) → (commit : Option Vote) → (answered : Bool) → Purpose
-  -- a job that updates from a source to a generation; the snapshot that is kept with the level that it
-  -- was read at, and whether the node applied it
+  -- a job that updates from a source to a generation; the snapshot that is kept with the level that
+  -- it was read at, and whether the node applied it
   Updating : (source generation : ℕ) → (kept : Option (Content × ℕ)) → (answered : Bool) → Purpose
   -- a job that deletes; whether the node removed the replica
   Deleting : (answered : Bool) → Purpose

@@ -1,5 +1,5 @@
--- The events of a push: when each may happen (a record), what it leaves (a function), and that it keeps
--- the invariant (a statement).
+-- The events of a push: when each may happen (a record), what it leaves (a function), and that it
+-- keeps the invariant (a statement).
 use Rattle.std.specs.Prelude.{◌≡◌, ℕ, ◌+◌, ◌≤◌, Option, Some, None, Bool, true, false, if◌then◌else◌}
 use Rattle.replica_invariant.specs.Booking.{Booking, Absent, At, Doubt, generation}
 use Rattle.replica_invariant.specs.Contents.{Content, Updates, Vote, after, vote}
@@ -10,7 +10,8 @@ use Rattle.replica_invariant.specs.State.{OpenPush, ReadyPush, Replica, Shared, 
 
 -- the lease was drawn for a push
 abbrev pub IsOfPush : Purpose → Type 0
-IsOfPush purpose = (begun : ℕ) × (commit : Option Vote) × (answered : Bool) × (purpose ≡ Pushing begun commit answered)
+IsOfPush purpose = (begun : ℕ) × (commit : Option Vote) × (answered : Bool)
+    × (purpose ≡ Pushing begun commit answered)
 
 -- ---- it begins, with some members
 
@@ -18,14 +19,16 @@ pub record CanBegin (state : State) (members : ℕ → Bool) : Type 0 where
   pub turn : state.turn ≡ None
   pub some : (storage : ℕ) × (members storage ≡ true)
   pub assigned : (storage : ℕ) → members storage ≡ true → state.assigned storage ≡ true
-  pub current : (storage : ℕ) → members storage ≡ true → (state.replica storage).booking ≡ At state.shared.newest
+  pub current : (storage : ℕ) → members storage ≡ true
+      → (state.replica storage).booking ≡ At state.shared.newest
 
 abbrev pub begun : State → (ℕ → Bool) → State
 begun state members = record state {
   shared = record state.shared { last = state.shared.last + 1 };
   replica = λ storage.
       if members storage
-      then drawn (state.replica storage) (state.shared.last + 1) (Pushing state.shared.newest None false)
+      then drawn (state.replica storage) (state.shared.last + 1)
+          (Pushing state.shared.newest None false)
       else state.replica storage;
   turn = Some (record {
     lease = state.shared.last + 1;
@@ -38,11 +41,13 @@ begun state members = record state {
 }
 
 abbrev pub BeginKeeps : Type 0
-BeginKeeps = (state : State) (members : ℕ → Bool) → Invariant state → CanBegin state members → Invariant (begun state members)
+BeginKeeps = (state : State) (members : ℕ → Bool) → Invariant state → CanBegin state members
+    → Invariant (begun state members)
 
 -- ---- a prepare is delivered
 
-pub record CanPrepare (shared : Shared) (replica : Replica) (lease : ℕ) (updates : Updates) : Type 0 where
+pub record CanPrepare (shared : Shared) (replica : Replica) (lease : ℕ)
+    (updates : Updates) : Type 0 where
   pub purpose : IsOfPush (replica.purpose lease)
   pub live : replica.node.fence ≤ lease
   pub held : replica.node.held ≡ true
@@ -52,7 +57,8 @@ abbrev pub prepared : Replica → ℕ → Updates → Replica
 prepared replica lease updates = record replica {
   node = record replica.node {
     fence = lease;
-    ready = Some (record { lease = lease; updates = updates; content = after replica.node.refs updates });
+    ready = Some
+        (record { lease = lease; updates = updates; content = after replica.node.refs updates });
   };
 }
 
@@ -74,12 +80,15 @@ pub record CanAbort (replica : Replica) (lease : ℕ) : Type 0 where
   pub live : replica.node.fence ≤ lease
 
 abbrev pub AbortKeeps : Type 0
-AbortKeeps = (state : State) (storage lease : ℕ) → Invariant state → CanAbort (state.replica storage) lease
+AbortKeeps = (state : State) (storage lease : ℕ) → Invariant state
+    → CanAbort (state.replica storage) lease
     → Invariant (with_replica state storage (raised (state.replica storage) (lease + 1)))
 
 abbrev pub LoseKeeps : Type 0
 LoseKeeps = (state : State) (storage : ℕ) → Invariant state
-    → Invariant (with_replica state storage (raised (state.replica storage) (state.replica storage).node.fence))
+    → Invariant
+        (with_replica state storage
+        (raised (state.replica storage) (state.replica storage).node.fence))
 
 -- ---- a vote decides for a hash; `told` are the voters whose vote stands for it
 
@@ -109,7 +118,8 @@ decided state push told hash = record state {
 }
 
 abbrev pub DecideKeeps : Type 0
-DecideKeeps = (state : State) (push : OpenPush) (told : ℕ → Bool) (hash : Vote) → Invariant state → CanDecide state push told → Invariant (decided state push told hash)
+DecideKeeps = (state : State) (push : OpenPush) (told : ℕ → Bool) (hash : Vote) → Invariant state
+    → CanDecide state push told → Invariant (decided state push told hash)
 
 -- ---- a vote for the decided hash comes late
 
@@ -121,16 +131,19 @@ pub record CanJoin (state : State) (push : OpenPush) (voter : ℕ) (hash : Vote)
 
 abbrev pub joined : State → OpenPush → ℕ → State
 joined state push voter = record state {
-  replica = with_value state.replica voter (doubted (state.replica voter) push.lease state.shared.newest);
+  replica =
+      with_value state.replica voter (doubted (state.replica voter) push.lease state.shared.newest);
   turn = Some (record push { told = with_value push.told voter true });
 }
 
 abbrev pub JoinKeeps : Type 0
-JoinKeeps = (state : State) (push : OpenPush) (voter : ℕ) (hash : Vote) → Invariant state → CanJoin state push voter hash → Invariant (joined state push voter)
+JoinKeeps = (state : State) (push : OpenPush) (voter : ℕ) (hash : Vote) → Invariant state
+    → CanJoin state push voter hash → Invariant (joined state push voter)
 
 -- ---- who asks for its result and is told: the commit is issued
 
-pub record CanIssue (state : State) (push : OpenPush) (voter : ℕ) (hash : Vote) (before : Option Vote) (answered : Bool) : Type 0 where
+pub record CanIssue (state : State) (push : OpenPush) (voter : ℕ) (hash : Vote)
+    (before : Option Vote) (answered : Bool) : Type 0 where
   pub turn : state.turn ≡ Some push
   pub decided : push.decided ≡ Some hash
   pub told : push.told voter ≡ true
@@ -143,13 +156,18 @@ issued replica lease purpose = record replica {
 }
 
 abbrev pub IssueKeeps : Type 0
-IssueKeeps = (state : State) (push : OpenPush) (voter : ℕ) (hash : Vote) (before : Option Vote) (answered : Bool) → Invariant state
+IssueKeeps =
+    (state : State) (push : OpenPush) (voter : ℕ) (hash : Vote) (before : Option Vote)
+    (answered : Bool) → Invariant state
     → CanIssue state push voter hash before answered
-    → Invariant (with_replica state voter (issued (state.replica voter) push.lease (Pushing push.begun (Some hash) answered)))
+    → Invariant
+        (with_replica state voter
+        (issued (state.replica voter) push.lease (Pushing push.begun (Some hash) answered)))
 
 -- ---- a commit is delivered; `answered` says whether its answer is kept
 
-pub record CanCommit (replica : Replica) (lease begun : ℕ) (hash : Vote) (before : Bool) (push : ReadyPush) : Type 0 where
+pub record CanCommit (replica : Replica) (lease begun : ℕ) (hash : Vote) (before : Bool)
+    (push : ReadyPush) : Type 0 where
   pub purpose : replica.purpose lease ≡ Pushing begun (Some hash) before
   pub live : replica.node.fence ≤ lease
   pub held : replica.node.held ≡ true
@@ -193,8 +211,11 @@ commit_arrived state storage lease begun hash answered content = record state {
 }
 
 abbrev pub CommitKeeps : Type 0
-CommitKeeps = (state : State) (storage lease begun : ℕ) (hash : Vote) (before answered : Bool) (push : ReadyPush) → Invariant state
-    → CanCommit (state.replica storage) lease begun hash before push → (before ≡ true → answered ≡ true)
+CommitKeeps =
+    (state : State) (storage lease begun : ℕ) (hash : Vote) (before answered : Bool)
+    (push : ReadyPush) → Invariant state
+    → CanCommit (state.replica storage) lease begun hash before push
+        → (before ≡ true → answered ≡ true)
     → Invariant (commit_arrived state storage lease begun hash answered push.content)
 
 -- ---- a member confirms: it votes for the decided hash in the committed phase
@@ -220,7 +241,8 @@ confirmed_cast state push voter = record state {
 }
 
 abbrev pub ConfirmKeeps : Type 0
-ConfirmKeeps = (state : State) (push : OpenPush) (voter : ℕ) (hash : Vote) → Invariant state → CanConfirm state push voter hash → Invariant (confirmed_cast state push voter)
+ConfirmKeeps = (state : State) (push : OpenPush) (voter : ℕ) (hash : Vote) → Invariant state
+    → CanConfirm state push voter hash → Invariant (confirmed_cast state push voter)
 
 -- ---- it is finished, or a restart drops it
 

@@ -1,5 +1,5 @@
--- Fencing, settling and accepting: when each may happen (a record), what it leaves (a function), and that
--- it keeps the invariant (a statement).
+-- Fencing, settling and accepting: when each may happen (a record), what it leaves (a function),
+-- and that it keeps the invariant (a statement).
 use Rattle.std.specs.Prelude.{◌≡◌, ℕ, ◌+◌, ◌≤◌, ◌<◌, Option, Some, None, true, ◌⊎◌}
 use Rattle.replica_invariant.specs.Booking.{Absent, At, Doubt}
 use Rattle.replica_invariant.specs.Contents.{undecided}
@@ -14,7 +14,8 @@ pub record CanFence (state : State) (target : ℕ) (left : Option Job) : Type 0 
   pub known : target < state.admitted
   pub turn : state.turn ≡ None
   pub booking : (state.replica target).booking ≡ Absent → ⊥
-  pub job : (left ≡ None) ⊎ ((left ≡ (state.replica target).job) × DoesNotRun (state.replica target))
+  pub job : (left ≡ None)
+      ⊎ ((left ≡ (state.replica target).job) × DoesNotRun (state.replica target))
 
 abbrev pub fence_drawn : Replica → ℕ → Option Job → Replica
 fence_drawn replica lease left = record replica {
@@ -24,8 +25,10 @@ fence_drawn replica lease left = record replica {
 }
 
 abbrev pub FenceBeginKeeps : Type 0
-FenceBeginKeeps = (state : State) (target : ℕ) (left : Option Job) → Invariant state → CanFence state target left
-    → Invariant (draw_at state target (fence_drawn (state.replica target) (state.shared.last + 1) left))
+FenceBeginKeeps = (state : State) (target : ℕ) (left : Option Job) → Invariant state
+    → CanFence state target left
+    → Invariant
+        (draw_at state target (fence_drawn (state.replica target) (state.shared.last + 1) left))
 
 -- ---- a fence is delivered: the node's fence is raised to the lease, if it was below, and a push that
 -- is ready is dropped, if the fence was raised
@@ -45,9 +48,11 @@ fence_answered replica lease fence ready = record replica {
 }
 
 abbrev pub FenceAnswerKeeps : Type 0
-FenceAnswerKeeps = (state : State) (target lease fence : ℕ) (ready : Option ReadyPush) → Invariant state
+FenceAnswerKeeps = (state : State) (target lease fence : ℕ) (ready : Option ReadyPush)
+    → Invariant state
     → CanAnswer (state.replica target) lease fence ready
-    → Invariant (with_replica state target (fence_answered (state.replica target) lease fence ready))
+    → Invariant
+        (with_replica state target (fence_answered (state.replica target) lease fence ready))
 
 -- where the node does not hold the repository, or its answer is lost, no answer is kept
 abbrev pub raised_to : Replica → ℕ → Option ReadyPush → Replica
@@ -56,20 +61,22 @@ raised_to replica fence ready = record replica {
 }
 
 abbrev pub FenceMissKeeps : Type 0
-FenceMissKeeps = (state : State) (target lease fence : ℕ) (ready : Option ReadyPush) → Invariant state
+FenceMissKeeps = (state : State) (target lease fence : ℕ) (ready : Option ReadyPush)
+    → Invariant state
     → CanAnswer (state.replica target) lease fence ready
     → Invariant (with_replica state target (raised_to (state.replica target) fence ready))
 
 -- ---- settling
 
--- what the answer tells of a doubt: the generation that was due, where its lease was committed last, and
--- else the one before
+-- what the answer tells of a doubt: the generation that was due, where its lease was committed
+-- last, and else the one before
 abbrev pub Tells : Option ℕ → ℕ → ℕ → ℕ → ℕ → Type 0
 Tells answer lease was due generation =
     ((answer ≡ Some lease) × (generation ≡ due)) ⊎ ((answer ≡ Some lease → ⊥) × (generation ≡ was))
 
 -- in doubt, and the fence under the kept lease was answered
-pub record CanSettle (replica : Replica) (answer : Option ℕ) (lease was due generation : ℕ) : Type 0 where
+pub record CanSettle (replica : Replica) (answer : Option ℕ)
+    (lease was due generation : ℕ) : Type 0 where
   pub purpose : replica.purpose replica.kept ≡ Fencing (Some answer)
   pub booking : replica.booking ≡ Doubt lease was due
   pub tells : Tells answer lease was due generation
@@ -78,7 +85,8 @@ abbrev pub booked_at : Replica → ℕ → Replica
 booked_at replica generation = record replica { booking = At generation; floor = Some generation }
 
 abbrev pub SettleKeeps : Type 0
-SettleKeeps = (state : State) (storage : ℕ) (answer : Option ℕ) (lease was due generation : ℕ) → Invariant state
+SettleKeeps = (state : State) (storage : ℕ) (answer : Option ℕ) (lease was due generation : ℕ)
+    → Invariant state
     → CanSettle (state.replica storage) answer lease was due generation
     → Invariant (with_replica state storage (booked_at (state.replica storage) generation))
 
@@ -117,4 +125,5 @@ accepted state storage = record state {
 }
 
 abbrev pub AcceptKeeps : Type 0
-AcceptKeeps = (state : State) (storage : ℕ) → Invariant state → CanAccept state storage → Invariant (accepted state storage)
+AcceptKeeps = (state : State) (storage : ℕ) → Invariant state → CanAccept state storage
+    → Invariant (accepted state storage)

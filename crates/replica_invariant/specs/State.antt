@@ -14,9 +14,9 @@ pub record Entry : Type 0 where
   pub hash : Vote
   pub content : Option Content
 
--- What all replicas share: the newest generation, the last lease, the lease of the creation, or 0, and
--- the entry of each generation. `text` has the one list of updates that a push has with a vote, by
--- its lease: no two lists that one push prepared have the same vote.
+-- What all replicas share: the newest generation, the last lease, the lease of the creation, or 0,
+-- and the entry of each generation. `text` has the one list of updates that a push has with a vote,
+-- by its lease: no two lists that one push prepared have the same vote.
 pub record Shared : Type 0 where
   pub newest : ℕ
   pub last : ℕ
@@ -32,8 +32,9 @@ pub record ReadyPush : Type 0 where
   pub updates : Updates
   pub content : Content
 
--- what the node has of the replica: whether it holds it, its references, the fence, which is the least
--- lease that an effect may carry, the lease of the last push that was done, and the push that is ready
+-- what the node has of the replica: whether it holds it, its references, the fence, which is the
+-- least lease that an effect may carry, the lease of the last push that was done, and the push that
+-- is ready
 pub record AtNode : Type 0 where
   pub held : Bool
   pub refs : Content
@@ -47,16 +48,18 @@ pub data JobState : Type 0 where
   Running : (lease : ℕ) → JobState
   Dead : JobState
 
--- the job of a target: an update, or else a delete, and the generation that it was planned or taken for
+-- the job of a target: an update, or else a delete, and the generation that it was planned or taken
+-- for
 pub record Job : Type 0 where
   pub update : Bool
   pub generation : ℕ
   pub state : JobState
 
--- What belongs to the replica on one storage: the last lease that was drawn for it; its booking; its
--- floor, the greatest generation that it was ever booked at; what the node has; its level, the
--- generation whose content the node holds; whether it ever had a level; what each lease was drawn for
--- there; and its job. Whether the storage is assigned stands apart: no clause on one replica reads it.
+-- What belongs to the replica on one storage: the last lease that was drawn for it; its booking;
+-- its floor, the greatest generation that it was ever booked at; what the node has; its level, the
+-- generation whose content the node holds; whether it ever had a level; what each lease was drawn
+-- for there; and its job. Whether the storage is assigned stands apart: no clause on one replica
+-- reads it.
 pub record Replica : Type 0 where
   pub kept : ℕ
   pub booking : Booking
@@ -69,9 +72,9 @@ pub record Replica : Type 0 where
 
 -- ---- the repository
 
--- The push that has the turn, with what its votes amount to: its lease, the newest generation when it
--- began, its members, the hash of the decision, who is told to commit, and who has voted for that
--- hash in the committed phase.
+-- The push that has the turn, with what its votes amount to: its lease, the newest generation when
+-- it began, its members, the hash of the decision, who is told to commit, and who has voted for
+-- that hash in the committed phase.
 pub record OpenPush : Type 0 where
   pub lease : ℕ
   pub begun : ℕ

@@ -1,6 +1,7 @@
 pub mod Reached
 pub mod SafeReplica
 pub mod SafePush
+pub mod Grows
 pub mod Conditions
 pub mod PushExample
 pub mod RepairExample

@@ -4,7 +4,8 @@ use Rattle.replica_invariant.specs.State.{State}
 use Rattle.push_events.proofs.Begin.{begin_keeps}
 use Rattle.push_events.proofs.Commit.{commit_keeps}
 use Rattle.push_events.proofs.Confirm.{confirm_keeps}
-use Rattle.push_events.proofs.Create.{admit_keeps, assign_keeps, create_keeps, first_create_keeps}
+use Rattle.push_events.proofs.Create.{create_keeps, first_create_keeps}
+use Rattle.push_events.proofs.Storages.{admit_keeps, assign_keeps}
 use Rattle.push_events.proofs.Decide.{decide_keeps}
 use Rattle.push_events.proofs.Issue.{issue_keeps}
 use Rattle.push_events.proofs.Join.{join_keeps}

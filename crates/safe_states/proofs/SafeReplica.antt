@@ -12,25 +12,44 @@ use Rattle.safe_states.specs.Safe.{AreContents, AreDoubts, AreEffects, AreGenera
 -- ---- which effects fit which booking
 
 module _ (r : Replica) where
-  at_fits : (g l : ℕ) (e : Effect) → r.booking ≡ At g → r.floor ≡ Some g → FitsEffect r l e → (x : ℕ) × (e ≡ Apply x) × (g < x)
+  at_fits : (g l : ℕ) (e : Effect) → r.booking ≡ At g → r.floor ≡ Some g → FitsEffect r l e
+      → (x : ℕ) × (e ≡ Apply x) × (g < x)
   at_fits g l Create b o q = none_some ((x : ℕ) × (Create ≡ Apply x) × (g < x)) (sym q ∙ o)
-  at_fits g l (Commit n h) b o q = absurd (elim q.booking [ inl z ↦ let w : At g ≡ Absent = sym b ∙ z in cc | inr z ↦ let w : At g ≡ Doubt l n (n + 1) = sym b ∙ z in cc ])
+  at_fits g l (Commit n h) b o q =
+      absurd (elim q.booking [
+        | inl z ↦ let w : At g ≡ Absent = sym b ∙ z in cc
+        | inr z ↦ let w : At g ≡ Doubt l n (n + 1) = sym b ∙ z in cc
+      ])
   at_fits g l (Apply x) b o q = (x, refl, q.at g b)
   at_fits g l Remove b o q = absurd (let w : At g ≡ Absent = sym b ∙ q.booking in cc)
 
-  doubt_fits : (l was due k : ℕ) (e : Effect) → r.booking ≡ Doubt l was due → r.floor ≡ Some was → FitsEffect r k e → ((h : Vote) × (e ≡ Commit was h) × (k ≡ l)) ⊎ ((x : ℕ) × (e ≡ Apply x) × (due ≤ x))
+  doubt_fits : (l was due k : ℕ) (e : Effect) → r.booking ≡ Doubt l was due → r.floor ≡ Some was
+      → FitsEffect r k e → ((h : Vote) × (e ≡ Commit was h) × (k ≡ l))
+      ⊎ ((x : ℕ) × (e ≡ Apply x) × (due ≤ x))
   doubt_fits l was due k Create b o q = absurd (none_some ⊥ (sym q ∙ o))
   doubt_fits l was due k (Commit n h) b o q = inl (
     h,
     (let z : Some n ≡ Some was = sym q.floor ∙ o in let w : n ≡ was = cc in ap (λ y. Commit y h) w),
-    elim q.booking [ inl z ↦ absurd (let w : Doubt l was due ≡ Absent = sym b ∙ z in cc) | inr z ↦ let w : Doubt l was due ≡ Doubt k n (n + 1) = sym b ∙ z in cc ],
+    elim q.booking [
+      | inl z ↦ absurd (let w : Doubt l was due ≡ Absent = sym b ∙ z in cc)
+      | inr z ↦ let w : Doubt l was due ≡ Doubt k n (n + 1) = sym b ∙ z in cc
+    ],
   )
   doubt_fits l was due k (Apply x) b o q = inr (x, refl, q.doubt l was due b)
-  doubt_fits l was due k Remove b o q = absurd (let w : Doubt l was due ≡ Absent = sym b ∙ q.booking in cc)
+  doubt_fits l was due k Remove b o q =
+      absurd (let w : Doubt l was due ≡ Absent = sym b ∙ q.booking in cc)
 
-  absent_fits : (f k : ℕ) (e : Effect) → r.floor ≡ Some f → FitsEffect r k e → (e ≡ Remove) ⊎ (((n : ℕ) × (h : Vote) × (e ≡ Commit n h) × (f < n + 1)) ⊎ ((x : ℕ) × (e ≡ Apply x) × (f ≤ x)))
+  absent_fits : (f k : ℕ) (e : Effect) → r.floor ≡ Some f → FitsEffect r k e → (e ≡ Remove)
+      ⊎ (((n : ℕ) × (h : Vote) × (e ≡ Commit n h) × (f < n + 1))
+      ⊎ ((x : ℕ) × (e ≡ Apply x) × (f ≤ x)))
   absent_fits f k Create o q = absurd (none_some ⊥ (sym q ∙ o))
-  absent_fits f k (Commit n h) o q = inr (inl (n, h, refl, (let z : Some n ≡ Some f = sym q.floor ∙ o in let w : n ≡ f = cc in omega (arith, w))))
+  absent_fits f k (Commit n h) o q =
+      inr (inl (
+        n,
+        h,
+        refl,
+        (let z : Some n ≡ Some f = sym q.floor ∙ o in let w : n ≡ f = cc in omega (arith, w)),
+      ))
   absent_fits f k (Apply x) o q = inr (inr (x, refl, q.floor f o))
   absent_fits f k Remove o q = inl refl
 
@@ -43,7 +62,8 @@ module _ (sh : Shared) (r : Replica) (h : ReplicaClauses sh r) where
   holds : (x : ℕ) → r.level ≡ Some x → Holds sh r x
   holds x e = let v = h.node.level x e in record { held = v.held; exact = v.content }
 
-  level_of : (booking : r.booking ≡ Absent → ⊥) (o : Option ℕ) → r.level ≡ o → (x : ℕ) × (r.level ≡ Some x)
+  level_of : (booking : r.booking ≡ Absent → ⊥) (o : Option ℕ) → r.level ≡ o → (x : ℕ)
+      × (r.level ≡ Some x)
   level_of booking None e = absurd (booking (h.node.bare e))
   level_of booking (Some x) e = (x, e)
 
@@ -82,7 +102,8 @@ module _ (sh : Shared) (r : Replica) (h : ReplicaClauses sh r) where
   jobs : AreJobs sh r
   jobs = record {
     lease = λ j l e p. let v = (h.job j e).running l p in sym v.lease;
-    snapshot = λ l x g m k a e. let v = h.copy.snapshot l x g m k a e in (v.low, v.newest, v.content);
+    snapshot = λ l x g m k a e. let v = h.copy.snapshot l x g m k a e in
+        (v.low, v.newest, v.content);
   }
 
   doubts : AreDoubts sh r

@@ -8,10 +8,11 @@ use Rattle.safe_states.specs.Happens.{IsReached}
 
 -- one push of one storage, from the creation to its last vote: it holds what was pushed
 abbrev pub SomePushEnds : Type 0
-SomePushEnds = (updates : Updates) → (state : State) × (IsReached state) × ((state.replica 0).booking ≡ At 1) × ((state.replica 0).node.refs ≡ after empty updates)
+SomePushEnds = (updates : Updates) → (state : State) × (IsReached state)
+    × ((state.replica 0).booking ≡ At 1) × ((state.replica 0).node.refs ≡ after empty updates)
 
--- a push whose commit was done and whose last vote never came: its storage is in doubt, is settled at
--- the generation that was due, and is accepted after that
+-- a push whose commit was done and whose last vote never came: its storage is in doubt, is settled
+-- at the generation that was due, and is accepted after that
 abbrev pub SomeAreSettledAndAccepted : Type 0
 SomeAreSettledAndAccepted = (updates : Updates) → (doubt settled fenced : State)
     × (IsReached doubt) × ((doubt.replica 0).booking ≡ Doubt 2 0 1)

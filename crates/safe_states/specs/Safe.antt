@@ -25,8 +25,8 @@ pub record Holds (shared : Shared) (replica : Replica) (generation : ℕ) : Type
 -- ---- one replica
 
 module _ (shared : Shared) (replica : Replica) where
-  -- no generation of a booking, an effect or a job is above newest; a booking never says less than one
-  -- before it, also over a time of absence
+  -- no generation of a booking, an effect or a job is above newest; a booking never says less than
+  -- one before it, also over a time of absence
   pub record AreGenerations : Type 0 where
     pub floor : (held : ℕ) → replica.floor ≡ Some held → held ≤ shared.newest
     pub at : (held : ℕ) → replica.booking ≡ At held → replica.floor ≡ Some held
@@ -38,7 +38,8 @@ module _ (shared : Shared) (replica : Replica) where
         → generation ≤ shared.newest
     pub jobs : (job : Job) → replica.job ≡ Some job → job.generation ≤ shared.newest
 
-  -- each lease that was drawn for the replica is at most the kept one, which the fence may pass by one
+  -- each lease that was drawn for the replica is at most the kept one, which the fence may pass by
+  -- one
   pub record AreLeases : Type 0 where
     pub kept : replica.kept ≤ shared.last
     pub drawn : (lease : ℕ) (issued : Effect) → IsIssued replica lease issued → lease ≤ replica.kept
@@ -57,7 +58,8 @@ module _ (shared : Shared) (replica : Replica) where
   -- what may still be done at the node never takes it below what is booked, nor below what was
   pub record AreEffects : Type 0 where
     pub at : (held lease : ℕ) (issued : Effect) → replica.booking ≡ At held
-        → IsLive replica lease issued → (generation : ℕ) × (issued ≡ Apply generation) × (held < generation)
+        → IsLive replica lease issued → (generation : ℕ) × (issued ≡ Apply generation)
+        × (held < generation)
     pub doubt : (under was due lease : ℕ) (issued : Effect) → replica.booking ≡ Doubt under was due
         → IsLive replica lease issued
         → ((hash : Vote) × (issued ≡ Commit was hash) × (lease ≡ under))
@@ -68,17 +70,18 @@ module _ (shared : Shared) (replica : Replica) where
         ⊎ (((begun : ℕ) × (hash : Vote) × (issued ≡ Commit begun hash) × (held < begun + 1))
         ⊎ ((generation : ℕ) × (issued ≡ Apply generation) × (held ≤ generation)))
 
-  -- a running job has the kept lease; a snapshot is the content of a generation that is not below the
-  -- one that the update brings
+  -- a running job has the kept lease; a snapshot is the content of a generation that is not below
+  -- the one that the update brings
   pub record AreJobs : Type 0 where
     pub lease : (job : Job) (lease : ℕ) → replica.job ≡ Some job → job.state ≡ Running lease
         → lease ≡ replica.kept
     pub snapshot : (lease source generation : ℕ) (refs : Content) (level : ℕ) (answered : Bool)
         → replica.purpose lease ≡ Updating source generation (Some (refs, level)) answered
-        → (generation ≤ level) × (level ≤ shared.newest) × ((shared.entry level).content ≡ Some refs)
+        → (generation ≤ level) × (level ≤ shared.newest)
+        × ((shared.entry level).content ≡ Some refs)
 
-  -- a push is ready at the fence alone; what becomes of a doubt is told by the fence and by the lease
-  -- that was committed last
+  -- a push is ready at the fence alone; what becomes of a doubt is told by the fence and by the
+  -- lease that was committed last
   pub record AreDoubts : Type 0 where
     pub ready : (push : ReadyPush) → replica.node.ready ≡ Some push
         → replica.node.fence ≡ push.lease

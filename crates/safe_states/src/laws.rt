@@ -2,6 +2,7 @@
 
 ghost use Rattle.safe_states.specs.Conditions.{ConfirmersAreInDoubt, JobsAreDecided, LateVotersAreAt, MembersAreAt, MembersAreNotFenced};
 ghost use Rattle.safe_states.specs.Examples.{SomeAreSettledAndAccepted, SomePushEnds};
+ghost use Rattle.safe_states.specs.Grows.{BookingsGrow, NothingFalls, RoutedReads};
 ghost use Rattle.safe_states.specs.Happens.{EventKeeps, ReachedKeeps};
 ghost use Rattle.safe_states.specs.Safe.{InvariantIsSafe, ReachedIsSafe};
 
@@ -26,6 +27,23 @@ pub fn the_invariant_is_safe()
 /// So each state that creation and then any events lead to is safe.
 pub fn every_state_is_safe()
     ensures { ReachedIsSafe }
+{}
+
+/// No event lets newest or the last lease fall, nor what an entry of the log has, nor the greatest
+/// generation that a replica was ever booked at; nor does any list of events.
+pub fn nothing_falls()
+    ensures { NothingFalls }
+{}
+
+/// So the generation of a booking never falls, also over a time of absence.
+pub fn a_booking_never_falls()
+    ensures { BookingsGrow }
+{}
+
+/// A read that was routed is answered, however late, with the content of its generation or of a later
+/// one; or the node holds nothing, and the replica is booked absent.
+pub fn a_routed_read_is_answered()
+    ensures { RoutedReads }
 {}
 
 /// Before a push is decided, its members are booked at newest.

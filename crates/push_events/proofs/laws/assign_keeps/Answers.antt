@@ -1,4 +1,4 @@
-use Rattle.push_events.proofs.Create.{assign_keeps}
+use Rattle.push_events.proofs.Storages.{assign_keeps}
 use Rattle.push_events.proofs.laws.assign_keeps.Goals as goal
 
 pub returns : goal.returns

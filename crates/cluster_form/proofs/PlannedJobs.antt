@@ -1,10 +1,10 @@
 -- What the reconciler plans: ready jobs of repositories and targets that hold no lock, no two of one.
-use Rattle.std.proofs.Common.{◌≡◌, ◌<◌, ◌≤◌, ◌+◌, ◌-◌, ◌^◌, ◌&&◌, ◌||◌, ◌⊎◌, ℕ, zero, suc, not, List, [], ◌∷◌, ◌++◌, Bool, true, false, if◌then◌else◌, Option, None, Some, refl, sym, ◌∙◌, ap, subst, inl, inr, map, flat_map, length, take, slice_get, arith}
+use Rattle.std.proofs.Common.{◌≡◌, ◌<◌, ◌≤◌, ◌+◌, ◌&&◌, ◌||◌, ◌⊎◌, ℕ, zero, suc, not, List, [], ◌∷◌, ◌++◌, Bool, true, false, Option, None, Some, refl, sym, subst, inl, inr, map, flat_map, take, slice_get, arith}
 use Rattle.std.specs.List.{AllByRecursion}
 use Rattle.px_ops.specs.declared.job.Job.{Job}
 use Rattle.px_ops.specs.declared.job.JobKind.{JobKind}
 use Rattle.px_ops.specs.declared.job.JobKind.TheVariants.{Update, Delete}
-use Rattle.px_cluster.specs.Book.{Replica, Repository, Storage, is_absent, is_newest, is_of, storages_of}
+use Rattle.px_cluster.specs.Book.{Replica, Repository, Storage, is_absent, is_newest, is_of}
 use Rattle.px_cluster.specs.Core.{Core, is_in_push, is_up, repository}
 use Rattle.px_cluster.specs.Jobs.{are_assigned_newest, holds_lock, is_dead, is_for, is_locked, sources_for}
 use Rattle.px_cluster.specs.Numbers.{first_of, places_from}

@@ -4,12 +4,15 @@ use Rattle.px_cluster.specs.Core.{Core}
 use Rattle.cluster_form.specs.Books.{AreBooks}
 use Rattle.cluster_form.specs.Jobs.{AreJobs}
 use Rattle.cluster_form.specs.Turns.{AreTurns}
+use Rattle.cluster_form.specs.Within.{AreWithin}
 
--- the book, the queue, and transactions and turns are as they should be
+-- the book, the queue, and transactions and turns are as they should be, and their numbers are within
+-- what was given
 pub record IsFormed (core : Core) : Type 0 where
   pub books : AreBooks core
   pub jobs : AreJobs core
   pub turns : AreTurns core
+  pub within : AreWithin core
 
 abbrev pub HasForm : Cluster → Type 0
 HasForm cluster = IsFormed cluster.core

@@ -2,4 +2,5 @@ pub mod Always
 pub mod Books
 pub mod Jobs
 pub mod Turns
+pub mod Within
 pub mod Form

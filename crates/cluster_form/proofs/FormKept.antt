@@ -8,6 +8,7 @@ use Rattle.cluster_form.specs.Jobs.{AreInOrder}
 use Rattle.cluster_form.specs.Form.{HasForm, IsFormed}
 use Rattle.cluster_form.proofs.BooksKept.{books_again, books_left, no_books}
 use Rattle.cluster_form.proofs.Induction.{always, core_kept}
+use Rattle.cluster_form.proofs.JobsHome.{homes_again, homes_left}
 use Rattle.cluster_form.proofs.JobsKept.{jobs_again, jobs_left, no_jobs}
 use Rattle.cluster_form.proofs.TurnsKept.{no_turns, turns_again, turns_left}
 use Rattle.cluster_form.proofs.WithinBooks.{books_within}
@@ -27,6 +28,7 @@ left core asked none form = record {
   jobs = jobs_left core asked form.books.dense form.jobs;
   turns = turns_left core asked none form.books.dense form.turns;
   within = within_left core asked form.jobs.order form.within;
+  homes = homes_left core asked form.books.dense form.homes;
 }
 
 again : (core : Core) → IsFormed core → IsFormed (restarted core)
@@ -35,6 +37,7 @@ again core form = record {
   jobs = jobs_again core form.jobs;
   turns = turns_again core form.turns;
   within = record { books = form.within.books; jobs = form.within.jobs; pushes = tt };
+  homes = homes_again core form.homes;
 }
 
 at_first : IsFormed empty
@@ -43,6 +46,7 @@ at_first = record {
   jobs = no_jobs;
   turns = no_turns;
   within = record { books = tt; jobs = tt; pushes = tt };
+  homes = tt;
 }
 
 pub form_kept : IsKept HasForm

@@ -20,4 +20,6 @@ mod Among
 mod WithinBooks
 mod WithinLists
 mod WithinRows
+mod Homes
+mod JobsHome
 mod FormKept

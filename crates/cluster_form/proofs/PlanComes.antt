@@ -31,7 +31,7 @@ module _ (core : Core) (only : Option ℕ)
   all_may = all_numbered MayCome
       (λ job n may. record { queued = may.queued; unlocked = may.unlocked }) core.last_job cut
       (all_taken MayCome _ (all_planned core only) (all_of_plan core MayCome
-      (λ repo book storage job is new. record {
+      (λ repo book storage job is among new. record {
         queued = new.queued;
         unlocked = (λ i. is_locked core (new.repo_ i) (new.target_ i)) ∙ new.unlocked;
       }) only))

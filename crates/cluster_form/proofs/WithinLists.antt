@@ -22,7 +22,7 @@ use Rattle.cluster_form.proofs.PlannedJobs.{all_of_plan}
 
 -- ---- a repository stays on record, and further on
 
-later_there : (old new : List Repository) → AreLater old new → (repo : ℕ) (book : Repository)
+pub later_there : (old new : List Repository) → AreLater old new → (repo : ℕ) (book : Repository)
     → slice_get old repo ≡ Some book
     → (later : Repository) × (slice_get new repo ≡ Some later) × IsLater book later
 later_there [] new are repo book is = absurd (let none : None ≡ Some book = is in cc)
@@ -126,7 +126,7 @@ jobs_planned core only all =
       lease = is.lease;
     }) core.last_job (take (2 ^ 64 - 1 - core.last_job) (all_planned core only))
     (all_taken _ _ (all_planned core only) (all_of_plan core (IsJobWithin core.repositories)
-    (λ repo book storage job there new. record {
+    (λ repo book storage job there among new. record {
       book = book;
       there = ap (slice_get core.repositories) new.repo_ ∙ there;
       generation = (let same = new.generation in omega (arith, same));

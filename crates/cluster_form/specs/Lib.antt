@@ -3,4 +3,5 @@ pub mod Books
 pub mod Jobs
 pub mod Turns
 pub mod Within
+pub mod Homes
 pub mod Form

@@ -22,7 +22,7 @@ use Rattle.px_cluster.specs.Creating.{enrolled}
 use Rattle.px_cluster.specs.Jobs.{ended_job, with_end_booked, without_job}
 use Rattle.px_cluster.specs.Numbers.{is_one_of}
 use Rattle.px_cluster.specs.Ops.{left_by}
-use Rattle.px_cluster.specs.Pushes.{beginning, begun_at, drawn_for_members, drawn_if_member, prepared_outcome}
+use Rattle.px_cluster.specs.Pushes.{beginning, begun_at, drawn_for_members, prepared_outcome}
 use Rattle.px_cluster.specs.Repairs.{settled}
 use Rattle.px_cluster.specs.Taking.{Drop, Next, PassOver, Take, Taking, book_as_taken, dequeued, dequeued_by, next_job, taken_in}
 use Rattle.cluster_form.specs.Books.{storages_in}

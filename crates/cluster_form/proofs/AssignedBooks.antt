@@ -1,16 +1,16 @@
 -- Some storage of a repository is assigned, after each change of the book.
-use Rattle.std.proofs.Common.{◌≡◌, ℕ, ◌-◌, ◌==◌, ◌||◌, ◌&&◌, not, zero, suc, List, [], ◌∷◌, ◌++◌, Bool, true, false, if◌then◌else◌, Option, None, Some, refl, sym, ◌∙◌, ap, inl, inr, filter, map, length, reverse, take}
+use Rattle.std.proofs.Common.{◌≡◌, ℕ, ◌-◌, ◌==◌, ◌||◌, ◌&&◌, not, zero, suc, List, [], ◌∷◌, ◌++◌, Bool, true, false, if◌then◌else◌, Option, None, Some, refl, sym, ◌∙◌, ap, inl, inr, filter, map, length, take}
 use Rattle.std.specs.List.{AllByRecursion, list_any}
 use Rattle.std.specs.Option.{option_or}
 use Rattle.std.specs.Str.{bytes_eq}
 use Rattle.px_cluster.specs.Book.{Replica, Repository, storages_of, storages_where}
 use Rattle.px_cluster.specs.Core.{Core}
 use Rattle.px_cluster.specs.Creating.{assigned_for, assigned_under, created_on, factor_for, unrecorded, with_storage}
-use Rattle.px_cluster.specs.Factor.{assigned_now, could_be_left, is_added, is_chosen, is_left, is_spared, reassigned, spared}
-use Rattle.px_cluster.specs.Members.{hosts, is_host, kept_or_first, primary_of}
+use Rattle.px_cluster.specs.Factor.{assigned_now, could_be_left, is_chosen, is_left, is_spared, reassigned, spared}
+use Rattle.px_cluster.specs.Members.{hosts, is_host, primary_of}
 use Rattle.px_cluster.specs.Numbers.{first_of, is_one_of}
 use Rattle.cluster_form.specs.Books.{HasAssigned, storages_in}
-use Rattle.cluster_form.proofs.AlikeBooks.{IsAlike, assignments}
+use Rattle.cluster_form.proofs.AlikeBooks.{IsAlike}
 use Rattle.cluster_form.proofs.Lists.{bool, both_left, both_right, same_self}
 use Rattle.cluster_form.proofs.OneOf.{all_reversed, all_taken, all_where, any_where, first_one, kept_one, one_has, or_later}
 

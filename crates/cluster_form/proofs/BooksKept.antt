@@ -1,5 +1,5 @@
 -- The book keeps its form at each operation, and at a restart.
-use Rattle.std.proofs.Common.{◌≡◌, ℕ, ◌+◌, ◌==◌, List, [], ◌∷◌, ◌++◌, Bool, true, false, not, nat_lt, Option, None, Some, refl, sym, ◌∙◌, ap, subst, slice_get, set, map, unwrap_or, length, arith}
+use Rattle.std.proofs.Common.{◌≡◌, ℕ, ◌==◌, List, [], ◌∷◌, ◌++◌, Bool, true, false, Option, None, Some, refl, sym, ◌∙◌, ap, subst, slice_get, set, map, unwrap_or, length, arith}
 use Rattle.std.specs.List.{AllByRecursion}
 use Rattle.std.specs.Str.{bytes_eq}
 use Rattle.px_ops.specs.declared.op.Op.{Op}
@@ -11,12 +11,12 @@ use Rattle.px_cluster.specs.Creating.{admitted, assigned_for, create_refusal, cr
 use Rattle.px_cluster.specs.Factor.{reassigned}
 use Rattle.px_cluster.specs.Ops.{left_by, refusal_of}
 use Rattle.px_cluster.specs.Refusals.{cause, first_cause}
-use Rattle.cluster_form.specs.Books.{AreBooks, HasAssigned, IsDense, storages_in}
+use Rattle.cluster_form.specs.Books.{AreBooks, HasAssigned, IsDense}
 use Rattle.cluster_form.proofs.AlikeBooks.{AreAlike, IsPlain, left_alike}
 use Rattle.cluster_form.proofs.ApartPaths.{AreApart, apart_more, still_apart, were_alike, were_mapped, were_set}
 use Rattle.cluster_form.proofs.AssignedBooks.{assigned_admitted, assigned_alike, assigned_created, assigned_reassigned}
 use Rattle.cluster_form.proofs.DenseBooks.{all_alike_too, dense_admitted, dense_alike, dense_created, dense_reassigned, dense_unmade}
-use Rattle.cluster_form.proofs.Lists.{all_both, all_got, all_map, all_set, both_left, both_right, bytes_same, choose, if_kept, same_bytes, some_is}
+use Rattle.cluster_form.proofs.Lists.{all_both, all_got, all_map, all_set, both_left, bytes_same, if_kept, same_bytes}
 use Rattle.cluster_form.proofs.Places.{got_beyond, place_found, place_none}
 
 -- the three parts, over the lists

@@ -1,14 +1,14 @@
 -- A repository has a replica for each storage of its virtual storage, after each change of the book.
-use Rattle.std.proofs.Common.{◌≡◌, ℕ, ◌+◌, List, [], ◌∷◌, ◌++◌, Bool, true, false, if◌then◌else◌, refl, sym, ◌∙◌, ap, inl, inr, map, length, arith}
+use Rattle.std.proofs.Common.{◌≡◌, ℕ, ◌+◌, List, [], ◌∷◌, ◌++◌, Bool, true, false, if◌then◌else◌, refl, sym, ◌∙◌, ap, map, length, arith}
 use Rattle.std.specs.List.{AllByRecursion}
 use Rattle.std.specs.Str.{bytes_eq}
 use Rattle.px_cluster.specs.Book.{Replica, Repository, Storage, is_of, storages_of}
 use Rattle.px_cluster.specs.Core.{Core}
 use Rattle.px_cluster.specs.Creating.{assigned_under, created_on, unmade, unrecorded, with_storage}
 use Rattle.px_cluster.specs.Factor.{reassigned}
-use Rattle.cluster_form.specs.Books.{IsDense, storages_in}
+use Rattle.cluster_form.specs.Books.{IsDense}
 use Rattle.cluster_form.proofs.AlikeBooks.{AreAlike, IsAlike}
-use Rattle.cluster_form.proofs.Lists.{all_map, bool, bytes_same, map_kept, same_bytes}
+use Rattle.cluster_form.proofs.Lists.{bytes_same, map_kept, same_bytes}
 use Rattle.cluster_form.proofs.Places.{places_more}
 
 -- ---- alike

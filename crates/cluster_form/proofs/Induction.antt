@@ -6,7 +6,7 @@ use Rattle.px_ops.specs.declared.node_refusal.NodeRefusal.{NodeRefusal}
 use Rattle.px_ops.specs.declared.op.Op.{Op}
 use Rattle.px_ops.specs.declared.refusal.Refusal.{Refusal}
 use Rattle.px_cluster.specs.Acknowledged.{done_in, event_refusal}
-use Rattle.px_cluster.specs.Astray.{FencesUnanswered, GoesAstray, GoesUnanswered, Happens, IsLost, Move, Moves, MovesOn, Unanswered}
+use Rattle.px_cluster.specs.Astray.{FencesUnanswered, GoesAstray, GoesUnanswered, Happens, IsLost, Move, MovesOn, Unanswered}
 use Rattle.px_cluster.specs.Cluster.{Cluster, starting_with}
 use Rattle.px_cluster.specs.Core.{Core, restarted}
 use Rattle.px_cluster.specs.Deliveries.{Delivers, Fences, ReadsRefs, TakesSnapshot}

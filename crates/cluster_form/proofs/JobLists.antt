@@ -1,12 +1,12 @@
 -- The order of jobs, after the list was changed.
-use Rattle.std.proofs.Common.{◌≡◌, ◌<◌, ◌≤◌, ◌+◌, ◌==◌, ◌&&◌, ℕ, List, [], ◌∷◌, ◌++◌, Bool, true, false, Option, refl, sym, ◌∙◌, ap, subst, inl, inr, map, filter, length, arith}
+use Rattle.std.proofs.Common.{◌≡◌, ◌<◌, ◌≤◌, ◌+◌, ◌==◌, ◌&&◌, ℕ, List, [], ◌∷◌, ◌++◌, Bool, true, false, refl, sym, ◌∙◌, map, filter, length, arith}
 use Rattle.std.specs.List.{AllByRecursion, list_any}
 use Rattle.px_ops.specs.declared.job.Job.{Job}
 use Rattle.px_cluster.specs.Ids.{job_id}
 use Rattle.px_cluster.specs.Jobs.{is_for}
 use Rattle.px_cluster.specs.Plan.{numbered}
 use Rattle.cluster_form.specs.Jobs.{AreInOrder, IsBehind}
-use Rattle.cluster_form.proofs.Lists.{all_both, all_filter, all_map, all_such, bool, both_left, both_right, choose, same_number, same_self}
+use Rattle.cluster_form.proofs.Lists.{all_both, all_filter, all_map, all_such, both_left, both_right, choose, same_number, same_self}
 use Rattle.cluster_form.proofs.OneOf.{or_later}
 
 -- ---- lists

@@ -9,9 +9,17 @@ mod AssignedBooks
 mod BooksKept
 mod JobLists
 mod PlannedJobs
+mod PlanComes
 mod JobsKept
 mod Registries
 mod Panels
 mod TurnLists
 mod TurnsKept
+mod BooksWithin
+mod Among
+mod WithinBooks
+mod WithinLists
+mod WithinRows
+mod Homes
+mod JobsHome
 mod FormKept

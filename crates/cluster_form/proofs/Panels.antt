@@ -1,5 +1,5 @@
 -- The members of a push are storages, each once, and their panel by the rule is one.
-use Rattle.std.proofs.Common.{◌≡◌, ◌<◌, ◌≤◌, ◌+◌, ◌/◌, ◌==◌, ◌||◌, ℕ, zero, suc, not, max, List, [], ◌∷◌, ◌++◌, Bool, true, false, Option, None, Some, refl, sym, ◌∙◌, ap, subst, inl, inr, filter, map, length, slice_get, unwrap_or, sum_by, arith}
+use Rattle.std.proofs.Common.{◌≡◌, ◌<◌, ◌≤◌, ◌+◌, ◌/◌, ◌==◌, ◌||◌, ℕ, zero, suc, not, max, List, [], ◌∷◌, ◌++◌, Bool, true, false, Option, None, Some, refl, sym, ap, subst, inl, inr, filter, map, length, slice_get, unwrap_or, sum_by, arith}
 use Rattle.std.specs.List.{AllByRecursion}
 use Rattle.std.specs.Option.{option_map}
 use Rattle.std.proofs.lemmas.List.Sums.{sum-map, sum_by-cons}
@@ -7,14 +7,14 @@ use Rattle.px_base.specs.declared.voter.Voter.{Voter}
 use Rattle.voters.specs.Marks.{voter_weight}
 use Rattle.voters.specs.Panel.{poll_of}
 use Rattle.voters.specs.Rule.{IsPoll}
-use Rattle.px_cluster.specs.Book.{Replica, Repository, Storage, is_of, storages_of}
+use Rattle.px_cluster.specs.Book.{Replica, Repository, Storage, is_of}
 use Rattle.px_cluster.specs.Core.{Core, empty, name_of}
 use Rattle.px_cluster.specs.Members.{hosts, is_host, kept_or_first, led_by, members, primary_of, threshold_for, voter_with, voters_of}
-use Rattle.px_cluster.specs.Numbers.{first_of, is_one_of, places_from}
+use Rattle.px_cluster.specs.Numbers.{is_one_of, places_from}
 use Rattle.cluster_form.specs.Books.{IsDense, storages_in}
 use Rattle.cluster_form.specs.Turns.{AreDistinct, panel_for}
-use Rattle.cluster_form.proofs.Lists.{all_filter, all_such, bool, choose, other_number, same_number, same_self, some_is}
-use Rattle.cluster_form.proofs.OneOf.{all_where, kept_one, one_has}
+use Rattle.cluster_form.proofs.Lists.{all_filter, all_such, bool, choose, same_number}
+use Rattle.cluster_form.proofs.OneOf.{kept_one, one_has}
 use Rattle.cluster_form.proofs.PlannedJobs.{AreRising, storages_rise}
 
 -- ---- distinct members

@@ -1,6 +1,6 @@
 -- What stands in a list with one element more, and the places of what passes a test.
-use Rattle.std.proofs.Common.{◌≡◌, ℕ, ◌+◌, ◌<◌, zero, suc, List, [], ◌∷◌, ◌++◌, Bool, true, false, if◌then◌else◌, None, Some, refl, sym, ◌∙◌, ap, inl, inr, slice_get, length, arith}
-use Rattle.px_cluster.specs.Numbers.{first_of, places_from, places_of}
+use Rattle.std.proofs.Common.{◌≡◌, ℕ, ◌+◌, zero, suc, List, [], ◌∷◌, ◌++◌, Bool, true, false, if◌then◌else◌, None, Some, refl, sym, ◌∙◌, ap, inl, inr, slice_get, length, arith}
+use Rattle.px_cluster.specs.Numbers.{first_of, places_from}
 use Rattle.cluster_form.proofs.Lists.{bool, some_is}
 
 -- ---- one element more

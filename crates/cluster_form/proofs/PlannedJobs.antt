@@ -1,18 +1,18 @@
 -- What the reconciler plans: ready jobs of repositories and targets that hold no lock, no two of one.
-use Rattle.std.proofs.Common.{◌≡◌, ◌<◌, ◌≤◌, ◌+◌, ◌-◌, ◌^◌, ◌&&◌, ◌||◌, ◌⊎◌, ℕ, zero, suc, not, List, [], ◌∷◌, ◌++◌, Bool, true, false, if◌then◌else◌, Option, None, Some, refl, sym, ◌∙◌, ap, subst, inl, inr, map, flat_map, length, take, slice_get, arith}
+use Rattle.std.proofs.Common.{◌==◌, ◌≡◌, ◌<◌, ◌≤◌, ◌+◌, ◌&&◌, ◌||◌, ◌⊎◌, ℕ, zero, suc, not, List, [], ◌∷◌, ◌++◌, Bool, true, false, Option, None, Some, refl, sym, subst, inl, inr, map, flat_map, take, slice_get, arith}
 use Rattle.std.specs.List.{AllByRecursion}
 use Rattle.px_ops.specs.declared.job.Job.{Job}
 use Rattle.px_ops.specs.declared.job.JobKind.{JobKind}
 use Rattle.px_ops.specs.declared.job.JobKind.TheVariants.{Update, Delete}
-use Rattle.px_cluster.specs.Book.{Replica, Repository, Storage, is_absent, is_newest, is_of, storages_of}
+use Rattle.px_cluster.specs.Book.{Replica, Repository, Storage, is_absent, is_newest, is_of}
 use Rattle.px_cluster.specs.Core.{Core, is_in_push, is_up, repository}
 use Rattle.px_cluster.specs.Jobs.{are_assigned_newest, holds_lock, is_dead, is_for, is_locked, sources_for}
-use Rattle.px_cluster.specs.Numbers.{first_of, places_from}
+use Rattle.px_cluster.specs.Numbers.{first_of, is_one_of, places_from}
 use Rattle.px_cluster.specs.Plan.{all_planned, new_job, planned_at, planned_for, planned_from, planned_in, update_from, wanted_at}
 use Rattle.cluster_form.specs.Books.{IsDense, storages_in}
 use Rattle.cluster_form.proofs.JobLists.{AreDistinct, pair_is}
-use Rattle.cluster_form.proofs.Lists.{all_both, all_got, all_such, bool, both_left, both_right, choose}
-use Rattle.cluster_form.proofs.OneOf.{all_taken}
+use Rattle.cluster_form.proofs.Lists.{all_both, all_got, all_such, bool, both_left, both_right, choose, same_self}
+use Rattle.cluster_form.proofs.OneOf.{all_taken, or_later}
 
 -- ---- the storages of replicas rise
 
@@ -46,6 +46,13 @@ pub storages_rise : (storages : List Storage) (book : Repository) → IsDense st
     → AreRising (storages_in book)
 storages_rise storages book dense =
     subst AreRising (sym dense) (places_rise 0 (is_of book.virt) storages)
+
+all_one : (ns : List ℕ) → AllByRecursion (λ n. is_one_of n ns ≡ true) ns
+all_one [] = tt
+all_one (n ∷ ns) = (
+  rw (same_self n) refl,
+  all_such _ _ ns (λ other is. or_later (n == other) _ is) (all_one ns),
+)
 
 -- ---- at most one job is planned for a replica
 
@@ -155,14 +162,10 @@ module _ (core : Core) (repo : ℕ) (book : Repository) where
       (distinct_in rs rise.1)
 
   pub all_planned_for : (P : Job → Type 0)
-      → ((storage : ℕ) (job : Job) → IsNew core repo book storage job → P job)
-      → AllByRecursion P (planned_for core repo book)
-  all_planned_for P on = for_each P (λ storage. Unit {0}) (λ storage job of is. on storage job is)
-      book.replicas (anything (map (λ (r : Replica). r.storage) book.replicas))
-    where
-      anything : (xs : List ℕ) → AllByRecursion (λ x. Unit {0}) xs
-      anything [] = tt
-      anything (x ∷ xs) = (tt, anything xs)
+      → ((storage : ℕ) (job : Job) → is_one_of storage (storages_in book) ≡ true
+      → IsNew core repo book storage job → P job) → AllByRecursion P (planned_for core repo book)
+  all_planned_for P on = for_each P (λ storage. is_one_of storage (storages_in book) ≡ true) on
+      book.replicas (all_one (storages_in book))
 
 -- ---- in all repositories
 
@@ -189,7 +192,8 @@ other_repo repo job later is above = by (bool (is_for job.repo.0 job.target.0 la
 
 module _ (core : Core) (P : Job → Type 0)
     (on : (repo : ℕ) (book : Repository) (storage : ℕ) (job : Job)
-    → repository core repo ≡ Some book → IsNew core repo book storage job → P job) where
+    → repository core repo ≡ Some book → is_one_of storage (storages_in book) ≡ true
+    → IsNew core repo book storage job → P job) where
   -- the list from a number on is the rest of the book
   abbrev IsRest : ℕ → List Repository → Type 0
   IsRest n books = (i : ℕ) (book : Repository) → slice_get books i ≡ Some book
@@ -212,14 +216,16 @@ module _ (core : Core) (P : Job → Type 0)
   all_from n (book ∷ books) rest = all_both P (planned_for core n book)
       (planned_from core (n + 1) books)
       (all_planned_for core n book P
-      (λ storage job is. on n book storage job (first_of_rest n book books rest) is))
+      (λ storage job among is.
+      on n book storage job (first_of_rest n book books rest) among is))
       (all_from (n + 1) books (rest_on n book books rest))
 
   all_in : (repo : ℕ) (there : Option Repository) → repository core repo ≡ there
       → AllByRecursion P (planned_in core repo there)
   all_in repo None is = tt
   all_in repo (Some book) is =
-      all_planned_for core repo book P (λ storage job new. on repo book storage job is new)
+      all_planned_for core repo book P
+      (λ storage job among new. on repo book storage job is among new)
 
   -- each job that is planned is new in its repository
   pub all_of_plan : (only : Option ℕ) → AllByRecursion P (all_planned core only)
@@ -232,7 +238,7 @@ from_number_on : (core : Core) (n : ℕ) (books : List Repository)
 from_number_on core n [] = tt
 from_number_on core n (book ∷ books) = all_both _ (planned_for core n book)
     (planned_from core (n + 1) books)
-    (all_planned_for core n book _ (λ storage job is. let same = is.repo_ in omega (arith, same)))
+    (all_planned_for core n book _ (λ storage job among is. let same = is.repo_ in omega (arith, same)))
     (all_such (λ (job : Job). n + 1 ≤ job.repo.0) _ (planned_from core (n + 1) books)
     (λ job above. omega (arith, above)) (from_number_on core (n + 1) books))
 
@@ -243,7 +249,7 @@ distinct_from core n (book ∷ books) dense =
     distinct_both (planned_for core n book) (planned_from core (n + 1) books)
     (distinct_in core n book book.replicas (storages_rise core.storages book dense.0))
     (distinct_from core (n + 1) books dense.1)
-    (all_planned_for core n book _ (λ storage job is.
+    (all_planned_for core n book _ (λ storage job among is.
     all_such (λ (later : Job). n + 1 ≤ later.repo.0) _ (planned_from core (n + 1) books)
     (λ later above. other_repo n job later is.repo_ (omega (arith, above)))
     (from_number_on core (n + 1) books)))

@@ -1,5 +1,5 @@
 -- Transactions stand in the order of their numbers, after one was registered, changed or closed.
-use Rattle.std.proofs.Common.{◌≡◌, ◌<◌, ◌≤◌, ◌+◌, ℕ, List, [], ◌∷◌, ◌++◌, Bool, true, false, Option, None, Some, refl, sym, ◌∙◌, ap, subst, inl, inr, arith}
+use Rattle.std.proofs.Common.{◌≡◌, ◌<◌, ◌≤◌, ◌+◌, ℕ, [], ◌∷◌, ◌++◌, Bool, None, Some, refl, sym, ◌∙◌, ap, subst, inl, inr, arith}
 use Rattle.std.specs.BTreeMap.{insert_entry, is_at}
 use Rattle.std.specs.Cmp.{nat_cmp_is}
 use Rattle.std.specs.List.{AllByRecursion}
@@ -7,11 +7,11 @@ use Rattle.std.specs.Map.{lookup, remove_entry, set_value}
 use Rattle.std.specs.Ordering.{is_eq, nat_cmp}
 use Rattle.std.specs.declared.cmp.Ordering.TheVariants.{Equal, Greater}
 use Rattle.px_base.specs.declared.ids.TxId.{TxId}
-use Rattle.txmanager.proofs.RegistryLemmas.{apart, other_closed}
-use Rattle.txmanager.specs.Registry.{Registry, transaction_at, with_registered, without_transaction}
+use Rattle.txmanager.proofs.RegistryLemmas.{apart}
+use Rattle.txmanager.specs.Registry.{Registry, transaction_at, with_registered}
 use Rattle.txmanager.specs.Voting.{Voting}
 use Rattle.cluster_form.specs.Turns.{AreNumbered, AreRising}
-use Rattle.cluster_form.proofs.Lists.{all_both, all_such, bool, choose, some_is}
+use Rattle.cluster_form.proofs.Lists.{all_both, all_such, bool}
 
 -- ---- numbers, after a change
 

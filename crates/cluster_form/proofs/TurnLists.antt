@@ -1,5 +1,5 @@
 -- Transactions and turns keep their form where one is opened, changed, closed or marked.
-use Rattle.std.proofs.Common.{◌≡◌, ◌<◌, ◌≤◌, ◌+◌, ◌*◌, ◌==◌, ◌⊎◌, ℕ, not, List, [], ◌∷◌, ◌++◌, Bool, true, false, if◌then◌else◌, Option, None, Some, Result, Ok, Err, refl, sym, ◌∙◌, ap, subst, inl, inr, map, filter, find, length, slice_get, arith}
+use Rattle.std.proofs.Common.{◌≡◌, ◌<◌, ◌+◌, ◌==◌, ℕ, not, List, [], ◌∷◌, ◌++◌, Bool, false, if◌then◌else◌, Option, None, Some, Result, Ok, Err, refl, sym, ◌∙◌, ap, subst, inl, inr, map, filter, length, arith}
 use Rattle.std.specs.BTreeMap.{is_at}
 use Rattle.std.specs.List.{AllByRecursion}
 use Rattle.std.specs.Option.{option_map}
@@ -7,33 +7,21 @@ use Rattle.std.specs.Ordering.{nat_cmp}
 use Rattle.px_base.specs.declared.hash.Hash.{Hash}
 use Rattle.px_base.specs.declared.ids.TxId.{TxId}
 use Rattle.px_base.specs.declared.phase.Phase.{Phase}
-use Rattle.px_ops.specs.declared.job.Job.{Job}
-use Rattle.px_ops.specs.declared.job.JobKind.{JobKind}
-use Rattle.px_ops.specs.declared.job.JobKind.TheVariants.{Update, Delete}
-use Rattle.px_ops.specs.declared.op.Op.{Op}
-use Rattle.px_ops.specs.declared.op.Op.TheVariants as op
-use Rattle.px_ops.specs.declared.refusal.Refusal.{Refusal}
-use Rattle.txmanager.proofs.CarryLemmas.{act_step, after_acts-append, opened_chain}
+use Rattle.txmanager.proofs.CarryLemmas.{act_step, after_acts-append}
 use Rattle.txmanager.proofs.ChainLemmas.{KeepEach}
 use Rattle.txmanager.proofs.RegistryLemmas.{other_closed, other_registered, other_with}
 use Rattle.txmanager.specs.Registry.{Registry, transaction_at, with_registered, with_transaction, without_transaction}
-use Rattle.txmanager.specs.Rounds.{TxAct, Cancel, CancelVoter, Cast, Stop, after_act}
+use Rattle.txmanager.specs.Rounds.{TxAct, CancelVoter, Cast, Stop, after_act}
 use Rattle.txmanager.specs.VoterCalls.{after_cancel_voter, after_cast, cancel_voter_answer, cast_answer}
-use Rattle.txmanager.specs.Voting.{Voting, after_cancel, after_stop, number_of, stop_answer, unless_err, voting_on, with_act, with_act_by}
+use Rattle.txmanager.specs.Voting.{Voting, after_stop, number_of, stop_answer, unless_err, with_act, with_act_by}
 use Rattle.txmanager.specs.declared.refusal.TxRefusal.{TxRefusal}
-use Rattle.voters.specs.Panel.{poll_of}
 use Rattle.voters.specs.Votes.{Votes}
-use Rattle.px_cluster.specs.Book.{Repository, Storage}
-use Rattle.px_cluster.specs.Core.{Core, OpenPush, empty, repository, restarted, turn_of}
-use Rattle.px_cluster.specs.Members.{hosts, members}
-use Rattle.px_cluster.specs.Pushes.{begin_refusal, beginning, ended, next_tx, read_only, turn_taken, with_begun}
-use Rattle.px_cluster.specs.Refusals.{cause, first_cause}
-use Rattle.cluster_form.specs.Books.{IsDense}
-use Rattle.cluster_form.specs.Turns.{AreDistinct, AreInOrder, AreTurns, AreTurnsOf, IsBehind, IsTurn, IsVoteOf, panel_for}
+use Rattle.px_cluster.specs.Book.{Storage}
+use Rattle.px_cluster.specs.Core.{OpenPush}
+use Rattle.cluster_form.specs.Turns.{AreDistinct, AreInOrder, AreTurnsOf, IsBehind, IsTurn, IsVoteOf}
 use Rattle.cluster_form.proofs.JobLists.{all_two}
 use Rattle.cluster_form.proofs.Lists.{all_both, all_filter, all_map, all_such, bool, choose, if_kept, other_number, same_number, some_is}
-use Rattle.cluster_form.proofs.Panels.{members_distinct, members_known, members_some, panel_is, panel_stays}
-use Rattle.cluster_form.proofs.Registries.{found_registered, found_set, numbered_more, numbered_removed, numbered_set}
+use Rattle.cluster_form.proofs.Registries.{found_set, numbered_more, numbered_removed, numbered_set}
 
 order_filtered : (test : OpenPush → Bool) (pushes : List OpenPush) → AreInOrder pushes
     → AreInOrder (filter test pushes)

@@ -1,5 +1,5 @@
 -- Transactions and turns keep their form at each operation, and at a restart.
-use Rattle.std.proofs.Common.{◌≡◌, ◌<◌, ◌+◌, ◌==◌, ℕ, not, List, [], ◌∷◌, ◌++◌, Bool, true, false, Option, None, Some, refl, sym, ◌∙◌, ap, subst, inl, inr, find, length, arith}
+use Rattle.std.proofs.Common.{◌≡◌, ◌<◌, ◌+◌, ◌==◌, ℕ, List, [], ◌∷◌, ◌++◌, Bool, true, false, Option, None, Some, refl, sym, ◌∙◌, subst, inl, inr, find, length, arith}
 use Rattle.std.specs.List.{AllByRecursion}
 use Rattle.px_base.specs.declared.hash.Hash.{Hash}
 use Rattle.px_base.specs.declared.ids.TxId.{TxId}
@@ -27,7 +27,7 @@ use Rattle.px_cluster.specs.Pushes.{begin_refusal, beginning, begun_at, next_tx,
 use Rattle.px_cluster.specs.Refusals.{cause, first_cause}
 use Rattle.px_cluster.specs.Taking.{Drop, Next, PassOver, Take, Taking, dequeued, dequeued_by, next_job, taken_in}
 use Rattle.cluster_form.specs.Books.{IsDense}
-use Rattle.cluster_form.specs.Turns.{AreTurns, AreTurnsOf, IsTurn, IsVoteOf, panel_for}
+use Rattle.cluster_form.specs.Turns.{AreTurns, AreTurnsOf, IsTurn, panel_for}
 use Rattle.cluster_form.proofs.Lists.{all_got, all_such, bool}
 use Rattle.cluster_form.proofs.Panels.{members_distinct, members_known, members_some, panel_is, panel_stays}
 use Rattle.cluster_form.proofs.Registries.{found_registered}

@@ -2,4 +2,6 @@ pub mod Always
 pub mod Books
 pub mod Jobs
 pub mod Turns
+pub mod Within
+pub mod Homes
 pub mod Form

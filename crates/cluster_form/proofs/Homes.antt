@@ -99,7 +99,7 @@ pub home_left : (core : Core) (asked : Op) (repo storage : ℕ) → IsHome core 
     → IsHome (left_by core asked) repo storage
 home_left core asked repo storage is =
     let later = later_there core.repositories (left_by core asked).repositories
-        (left core asked).0 repo is.book is.there in
+    (left core asked).0 repo is.book is.there in
     record {
       book = later.0;
       there = later.1;

@@ -55,8 +55,8 @@ module _ (sh : Shared) (r : Replica) (l s g k : ℕ) (m : Content) (a b : Bool)
       value_case
       (λ v d. d ≡ Updating s2 g2 (Some (m2, k2)) w → IsSnapshot sh g2 m2 k2) r.purpose l c y
       (λ q. let e1 : g ≡ g2 = cc in let e2 : ◌≡◌ {A = Content × ℕ} (m, k) (m2, k2) = cc in
-          subst (λ v. IsSnapshot sh v m2 k2) e1
-          (subst (λ (v : Content × ℕ). IsSnapshot sh g (v.0) (v.1)) e2 snap))
+      subst (λ v. IsSnapshot sh v m2 k2) e1
+      (subst (λ (v : Content × ℕ). IsSnapshot sh g (v.0) (v.1)) e2 snap))
       (λ z q. h.copy.snapshot y s2 g2 m2 k2 w q)
 
   answers : (y s2 g2 : ℕ) (o : Option (Content × ℕ)) → r'.purpose y ≡ Updating s2 g2 o true
@@ -66,7 +66,7 @@ module _ (sh : Shared) (r : Replica) (l s g k : ℕ) (m : Content) (a b : Bool)
       (λ v d. d ≡ Updating s2 g2 o true → r.kept ≡ v
       → IsApplied (l + 1) (Some k) v g2) r.purpose l c y
       (λ q z. let e1 : g ≡ g2 = cc in
-          record { above = omega arith; reached = (k, refl, omega (arith, snap.low, e1)) })
+      record { above = omega arith; reached = (k, refl, omega (arith, snap.low, e1)) })
       (λ z q w. absurd (omega (arith, (h.copy.answered y s2 g2 o q w).above, live, at_l, w)))
 
   jobs : (q : Job) → r.job ≡ Some q → JobClause sh.newest r.kept r'.purpose r.booking r.floor q
@@ -84,11 +84,14 @@ module _ (sh : Shared) (r : Replica) (l s g k : ℕ) (m : Content) (a b : Bool)
           doubt = w.doubt;
           absent = w.absent;
           purpose = record {
-            update = λ u. let o = w.purpose.update u in
-                (s, Some (m, k), b,
-                (let z : Updating s g (Some (m, k)) a ≡ Updating (o.0) q.generation (o.1) (o.2) =
-                sym purpose ∙ o.3 in let i : g ≡ q.generation = cc in
-                ap (λ y. Updating s y (Some (m, k)) b) i));
+            update = λ u. let o = w.purpose.update u in (
+              s,
+              Some (m, k),
+              b,
+              (let z : Updating s g (Some (m, k)) a ≡ Updating (o.0) q.generation (o.1) (o.2) =
+                  sym purpose ∙ o.3 in let i : g ≡ q.generation = cc in
+                  ap (λ y. Updating s y (Some (m, k)) b) i),
+            );
             delete = λ u. let o = w.purpose.delete u in
                 absurd (let z : Updating s g (Some (m, k)) a ≡ Deleting (o.0) = sym purpose ∙ o.1 in
                 cc);
@@ -104,8 +107,13 @@ module _ (sh : Shared) (r : Replica) (l s g k : ℕ) (m : Content) (a b : Bool)
       at = h.book.at;
       applies = x.applies;
       doubt = λ y w d q. let v = x.doubt y w d q in
-          record { floor = v.floor; next = v.next; newest = v.newest; lease = v.lease;
-          purpose = v.purpose };
+          record {
+            floor = v.floor;
+            next = v.next;
+            newest = v.newest;
+            lease = v.lease;
+            purpose = v.purpose;
+          };
     };
     lease = record {
       kept = h.lease.kept;
@@ -124,8 +132,13 @@ module _ (sh : Shared) (r : Replica) (l s g k : ℕ) (m : Content) (a b : Bool)
       bare = λ e. none_some (r.booking ≡ Absent) (sym e);
       early = λ e q. none_some (r.floor ≡ None) (sym q);
       level = λ y e. let z : k ≡ y = cc in subst (λ v. HasLevel sh r' v) z
-          (record { held = refl; had = refl; newest = snap.newest; content = snap.content;
-              floor = λ f q. omega (arith, fit.floor f q, snap.low) });
+          (record {
+            held = refl;
+            had = refl;
+            newest = snap.newest;
+            content = snap.content;
+            floor = λ f q. omega (arith, fit.floor f q, snap.low);
+          });
     };
     live = record {
       fits = λ y e q u. let v = sym (old y) ∙ u in
@@ -143,8 +156,11 @@ module _ (sh : Shared) (r : Replica) (l s g k : ℕ) (m : Content) (a b : Bool)
       issued = λ y n z e. h.commit.issued y n z (sym (old y) ∙ e);
       answered = λ y e. let v =
           h.commit.answered y (old_ack sh r l c (Apply g) h j live is refl refl y e) in
-          record { issued = λ z. v.issued (sym (old y) ∙ z); fence = omega (arith, v.fence, live);
-          doubt = v.doubt };
+          record {
+            issued = λ z. v.issued (sym (old y) ∙ z);
+            fence = omega (arith, v.fence, live);
+            doubt = v.doubt;
+          };
     };
     doubt = record {
       early = λ y w d e q. absurd (no_doubt sh r l c (Apply g) h j live is refl refl y w d q e);
@@ -164,8 +180,10 @@ module _ (sh : Shared) (r : Replica) (l s g k : ℕ) (m : Content) (a b : Bool)
       fresh = h.create.fresh;
       made = λ y e. let v =
           h.create.made y (old_made sh r l c (Apply g) h j live is refl refl y e) in
-          record { fence = omega (arith, v.fence, live);
-          level = λ q. absurd (omega (arith, v.fence, live, at_l, q)) };
+          record {
+            fence = omega (arith, v.fence, live);
+            level = λ q. absurd (omega (arith, v.fence, live, at_l, q));
+          };
     };
     copy = record { snapshot = snaps; answered = answers };
     fencing =
@@ -179,11 +197,14 @@ module _ (sh : Shared) (r : Replica) (l s g k : ℕ) (m : Content) (a b : Bool)
   pub applied_updates : (y s2 g2 : ℕ) → IsUpdate (r'.purpose y) s2 g2 → IsUpdate (r.purpose y) s2 g2
   applied_updates y s2 g2 =
       value_case (λ v d. IsUpdate d s2 g2 → IsUpdate (r.purpose v) s2 g2) r.purpose l c y
-      (λ q. (Some (m, k), a,
-          (let z : Updating s g (Some (m, k)) b ≡ Updating s2 g2 (q.0) (q.1) = q.2 in
-          let e1 : s ≡ s2 = cc in let e2 : g ≡ g2 = cc in
-          purpose ∙ ap (λ v. Updating v g (Some (m, k)) a) e1
-          ∙ ap (λ v. Updating s2 v (Some (m, k)) a) e2)))
+      (λ q. (
+        Some (m, k),
+        a,
+        (let z : Updating s g (Some (m, k)) b ≡ Updating s2 g2 (q.0) (q.1) = q.2 in
+            let e1 : s ≡ s2 = cc in let e2 : g ≡ g2 = cc in
+            purpose ∙ ap (λ v. Updating v g (Some (m, k)) a) e1
+            ∙ ap (λ v. Updating s2 v (Some (m, k)) a) e2),
+      ))
       (λ z q. q)
 
 pub apply_keeps : ApplyKeeps
@@ -193,11 +214,11 @@ apply_keeps st t l s g k m a b i can =
     replica_event st st.shared t (applied r l s g m k b) i (later_self st.shared) refl refl i.log
     (applied_ok st.shared r l s g k m a b (i.replicas t) purpose live)
     (λ f. absurd
-        (let z : Unused ≡ Updating s g (Some (m, k)) a = sym (f.purpose l) ∙ purpose in
-        cc)) refl refl refl
+    (let z : Unused ≡ Updating s g (Some (m, k)) a = sym (f.purpose l) ∙ purpose in
+    cc)) refl refl refl
     (applied_updates st.shared r l s g k m a b (i.replicas t) purpose live)
     (push_over r.purpose l c
-        (λ w q. absurd (let z : Updating s g (Some (m, k)) b ≡ Pushing w (q.0) (q.1) = q.2 in cc)))
+    (λ w q. absurd (let z : Updating s g (Some (m, k)) b ≡ Pushing w (q.0) (q.1) = q.2 in cc)))
     (λ p e q. absurd
-        (outside st.shared r l c (Apply g) (i.replicas t) (ap is_job purpose) live
-        (ap effect purpose) refl refl p (p.told t) (p.cast t) ((i.turn p e).member t q)))
+    (outside st.shared r l c (Apply g) (i.replicas t) (ap is_job purpose) live
+    (ap effect purpose) refl refl p (p.told t) (p.cast t) ((i.turn p e).member t q)))

@@ -70,8 +70,13 @@ module _ (sh : Shared) (r : Replica) (l : ℕ) (c : Purpose) (e : Effect) (h : R
     at = h.book.at;
     applies = λ k g q. h.book.applies k g (sym (effects k) ∙ q);
     doubt = λ k w d q. let v = h.book.doubt k w d q in
-        record { floor = v.floor; next = v.next; newest = v.newest; lease = v.lease;
-        purpose = re_push sh r l c h used push back creation k w v.purpose };
+        record {
+          floor = v.floor;
+          next = v.next;
+          newest = v.newest;
+          lease = v.lease;
+          purpose = re_push sh r l c h used push back creation k w v.purpose;
+        };
   }
 
   pub outside : (p : OpenPush) (t y : Bool) → MemberClause p t y r → ⊥

@@ -30,26 +30,54 @@ with_job_ok sh r o h job = record {
     at = h.book.at;
     applies = h.book.applies;
     doubt = λ l w d e. let v = h.book.doubt l w d e in
-        record { floor = v.floor; next = v.next; newest = v.newest; lease = v.lease;
-        purpose = v.purpose };
+        record {
+          floor = v.floor;
+          next = v.next;
+          newest = v.newest;
+          lease = v.lease;
+          purpose = v.purpose;
+        };
   };
-  lease = record { kept = h.lease.kept; zero = h.lease.zero; drawn = h.lease.drawn;
-      fence = h.lease.fence; committed = h.lease.committed };
-  node = record { bare = h.node.bare; early = h.node.early;
-      level = λ k e. let v = h.node.level k e in
-      record { held = v.held; had = v.had; newest = v.newest; floor = v.floor;
-      content = v.content } };
-  live = record { fits = λ l e a q. refit r o l e (h.live.fits l e a q); doubt = h.live.doubt;
-      commit = h.live.commit };
+  lease = record {
+    kept = h.lease.kept;
+    zero = h.lease.zero;
+    drawn = h.lease.drawn;
+    fence = h.lease.fence;
+    committed = h.lease.committed;
+  };
+  node = record {
+    bare = h.node.bare;
+    early = h.node.early;
+    level = λ k e. let v = h.node.level k e in
+        record {
+          held = v.held;
+          had = v.had;
+          newest = v.newest;
+          floor = v.floor;
+          content = v.content;
+        };
+  };
+  live = record {
+    fits = λ l e a q. refit r o l e (h.live.fits l e a q);
+    doubt = h.live.doubt;
+    commit = h.live.commit;
+  };
   commit =
-      record { begun = h.commit.begun; issued = h.commit.issued;
-      answered = λ l e. let v = h.commit.answered l e in
-      record { issued = v.issued; fence = v.fence; doubt = v.doubt } };
+      record {
+        begun = h.commit.begun;
+        issued = h.commit.issued;
+        answered = λ l e. let v = h.commit.answered l e in
+            record { issued = v.issued; fence = v.fence; doubt = v.doubt };
+      };
   doubt = record { early = h.doubt.early; late = h.doubt.late };
   ready = h.ready;
   create =
-      record { creating = h.create.creating; early = h.create.early; fresh = h.create.fresh;
-      made = λ l e. let v = h.create.made l e in record { fence = v.fence; level = v.level } };
+      record {
+        creating = h.create.creating;
+        early = h.create.early;
+        fresh = h.create.fresh;
+        made = λ l e. let v = h.create.made l e in record { fence = v.fence; level = v.level };
+      };
   copy = h.copy;
   fencing = h.fencing;
   job = job;
@@ -87,12 +115,14 @@ with_job_turn st s o i p e = let t = i.turn p e in record {
       value_case
       (λ y w. w.floor ≡ Some (p.begun + 1) → (st.replica y).floor ≡ Some (p.begun + 1)) st.replica s
       (with_job (st.replica s) o) x (λ q. q) (λ n q. q) f in
-      let q = t.first h x d g in
-          (q.0, q.1,
-          value_case
-          (λ y w. (st.replica y).booking ≡ At (p.begun + 1)
-          → w.booking ≡ At (p.begun + 1)) st.replica s (with_job (st.replica s) o) (q.0) (λ z. z)
-          (λ n z. z) q.2);
+      let q = t.first h x d g in (
+        q.0,
+        q.1,
+        value_case
+            (λ y w. (st.replica y).booking ≡ At (p.begun + 1)
+            → w.booking ≡ At (p.begun + 1)) st.replica s (with_job (st.replica s) o) (q.0) (λ z. z)
+            (λ n z. z) q.2,
+      );
 }
 
 -- a replica of a job changes, and either it goes or some storage isn't Absent
@@ -101,7 +131,7 @@ job_event : (st : State) (s : ℕ) (o : Option Job) → Invariant st
     → JobClause st.shared.newest (st.replica s).kept (st.replica s).purpose (st.replica s).booking
     (st.replica s).floor j)
     → (st.admitted ≤ s → o ≡ None) → (((x : ℕ) → (st.replica x).booking ≡ Absent) → o ≡ None)
-        → Invariant (record st { replica = with_value st.replica s (with_job (st.replica s) o) })
+    → Invariant (record st { replica = with_value st.replica s (with_job (st.replica s) o) })
 job_event st s o i job fr bl = record {
   source =
       source_keeps st.replica (with_value st.replica s (with_job (st.replica s) o))
@@ -109,16 +139,23 @@ job_event st s o i job fr bl = record {
       (λ y r. (st.replica y).floor ≡ Some f → (z : ℕ) × (r.floor ≡ Some z) × (f ≤ z)) st.replica s
       (with_job (st.replica s) o) x (λ e. (f, e, omega arith)) (λ n e. (f, e, omega arith)))
       (λ t l a g. value_case
-          (λ y r. IsUpdate (r.purpose l) a g → IsUpdate ((st.replica y).purpose l) a g) st.replica s
-          (with_job (st.replica s) o) t (λ v. v) (λ z v. v)) i.source;
+      (λ y r. IsUpdate (r.purpose l) a g → IsUpdate ((st.replica y).purpose l) a g) st.replica s
+      (with_job (st.replica s) o) t (λ v. v) (λ z v. v)) i.source;
   shape = record {
     some = i.shape.some;
     known = i.shape.known;
     fresh = λ x. value_case (λ y r. st.admitted ≤ y → IsUntouched r) st.replica s
         (with_job (st.replica s) o) x
         (λ b. let f = i.shape.fresh s b in
-            record { kept = f.kept; booking = f.booking; floor = f.floor; level = f.level;
-            had = f.had; purpose = f.purpose; job = fr b }) (λ n. i.shape.fresh x);
+        record {
+          kept = f.kept;
+          booking = f.booking;
+          floor = f.floor;
+          level = f.level;
+          had = f.had;
+          purpose = f.purpose;
+          job = fr b;
+        }) (λ n. i.shape.fresh x);
   };
   log = i.log;
   replicas =
@@ -158,8 +195,8 @@ module _ (sh : Shared) (r : Replica) (h : ReplicaClauses sh r) where
 pub plan_keeps : PlanKeeps
 plan_keeps st s j i c = job_event st s (Some j) i
     (λ k e. subst
-        (λ y. JobClause st.shared.newest (st.replica s).kept (st.replica s).purpose
-        (st.replica s).booking (st.replica s).floor y) (let z : j ≡ k = cc in z)
+    (λ y. JobClause st.shared.newest (st.replica s).kept (st.replica s).purpose
+    (st.replica s).booking (st.replica s).floor y) (let z : j ≡ k = cc in z)
     (record {
       generation = omega (arith, c.generation);
       running = λ l q. absurd (let z : Waiting ≡ Running l = sym c.waits ∙ q in cc);
@@ -172,14 +209,17 @@ plan_keeps st s j i c = job_event st s (Some j) i
 pub fail_keeps : FailKeeps
 fail_keeps st s j x i e not = job_event st s (Some (record j { state = x })) i
     (λ k q. subst
-        (λ y. JobClause st.shared.newest (st.replica s).kept (st.replica s).purpose
-        (st.replica s).booking (st.replica s).floor y)
-        (let z : record j { state = x } ≡ k = cc in z)
+    (λ y. JobClause st.shared.newest (st.replica s).kept (st.replica s).purpose
+    (st.replica s).booking (st.replica s).floor y)
+    (let z : record j { state = x } ≡ k = cc in z)
     (let v = (i.replicas s).job j e in
-        record { generation = v.generation; deleting = v.deleting;
-        running = λ l r. absurd (not l r) }))
+    record {
+      generation = v.generation;
+      deleting = v.deleting;
+      running = λ l r. absurd (not l r);
+    }))
     (λ b. none_some (Some (record j { state = x }) ≡ None) (sym (i.shape.fresh s b).job ∙ e))
-        (λ a. none_some (Some (record j { state = x }) ≡ None) (sym ((i.blank a).job s) ∙ e))
+    (λ a. none_some (Some (record j { state = x }) ≡ None) (sym ((i.blank a).job s) ∙ e))
 
 -- the end of an update: its job goes, then it is booked
 module _ (st : State) (t : ℕ) (j : Job) (l s : ℕ) (x : Option (Content × ℕ)) (i : Invariant st)
@@ -202,15 +242,15 @@ module _ (st : State) (t : ℕ) (j : Job) (l s : ℕ) (x : Option (Content × �
   replica : ReplicaClauses st.shared (ended r g)
   replica = booked_ok st.shared (with_job r None) g (done.reached.0)
       (with_job_ok st.shared r None h
-          (λ k e. none_some (JobClause st.shared.newest r.kept r.purpose r.booking r.floor k) e))
+      (λ k e. none_some (JobClause st.shared.newest r.kept r.purpose r.booking r.floor k) e))
       (fenced_dead st.shared r h.lease (omega (arith, run.lease, done.above)))
-          (λ k y a b. none_some ⊥ a) (done.reached.1) (done.reached.2)
+      (λ k y a b. none_some ⊥ a) (done.reached.1) (done.reached.2)
 
   outside : (p : OpenPush) → PushClause st.shared st.replica p → p.members t ≡ true → ⊥
   outside p y m = let d = y.member t m in
       let q : l ≡ p.lease = sym run.lease ∙ d.kept in
       let z : Updating s g x true ≡ Pushing p.begun (d.purpose.0) (d.purpose.1) = sym c.purpose
-          ∙ ap r.purpose q ∙ d.purpose.2 in cc
+      ∙ ap r.purpose q ∙ d.purpose.2 in cc
 
   source : SourceClause st.replica t s g
   source = i.source t l s g x true c.purpose
@@ -231,7 +271,7 @@ module _ (st : State) (t : ℕ) (j : Job) (l s : ℕ) (x : Option (Content × �
         (ended r g) k (λ q. absurd (outside p y q)) (λ n. y.member k);
     first = λ a k d f.
         let q : (v : ℕ) × (p.members v ≡ true)
-            × ((st.replica v).booking ≡ At (p.begun + 1)) = elim (bool (k == t)) [
+        × ((st.replica v).booking ≡ At (p.begun + 1)) = elim (bool (k == t)) [
           | inl b ↦
               y.first a s d
               (let z : Some g ≡ Some (p.begun + 1) =
@@ -241,20 +281,27 @@ module _ (st : State) (t : ℕ) (j : Job) (l s : ℕ) (x : Option (Content × �
               let w : g ≡ p.begun + 1 = cc in
               let n = (y.decided a d).newest in
               source.floor.1
-                  ∙ ap Some
-                  (let v : source.floor.0 ≡ p.begun + 1 =
-                  omega (arith, source.floor.2,
-                  (i.replicas s).book.floor (source.floor.0) source.floor.1, w, n) in v))
+              ∙ ap Some
+              (let v : source.floor.0 ≡ p.begun + 1 =
+              omega (
+                arith,
+                source.floor.2,
+                (i.replicas s).book.floor (source.floor.0) source.floor.1,
+                w,
+                n,
+              ) in v))
           | inr b ↦
               y.first a k d
               (sym (ap (λ w. w.floor) (value_elsewhere st.replica t (ended r g) k (unequal k t b)))
               ∙ f)
-        ] in
-        (q.0, q.1,
-            value_case
-            (λ v w. p.members v ≡ true → (st.replica v).booking ≡ At (p.begun + 1)
-            → w.booking ≡ At (p.begun + 1)) st.replica t (ended r g) (q.0)
-            (λ m z. absurd (outside p y m)) (λ n m z. z) q.1 q.2);
+        ] in (
+          q.0,
+          q.1,
+          value_case
+              (λ v w. p.members v ≡ true → (st.replica v).booking ≡ At (p.begun + 1)
+              → w.booking ≡ At (p.begun + 1)) st.replica t (ended r g) (q.0)
+              (λ m z. absurd (outside p y m)) (λ n m z. z) q.1 q.2,
+        );
   }
 
   end_update : Invariant (record st { replica = with_value st.replica t (ended r g) })

@@ -71,18 +71,27 @@ module _ (sh : Shared) (r : Replica) (l : ℕ) (a b : Bool) (h : ReplicaClauses 
   pub removed_ok : ReplicaClauses sh r'
   removed_ok =
       let u1 = used sh r l c Remove h j live is refl refl in
-          let u2 = push sh r l c Remove h j live is refl refl in
+      let u2 = push sh r l c Remove h j live is refl refl in
       let u3 = back sh r l c Remove h j live is refl refl in
-          let u4 = creation sh r l c Remove h j live is refl refl in record {
-        book = record { floor = h.book.floor; at = h.book.at;
-            applies = λ y g e. h.book.applies y g (sym (old y) ∙ e);
-            doubt = λ y w d e. absurd (no y w d e) };
-        lease = record { kept = h.lease.kept; zero = re_zero sh r l c h u1 u2 u3 u4;
-            drawn = re_drawn sh r l c h u1 u2 u3 u4; fence = λ e. omega (arith, at_l);
-            committed = λ y e. omega (arith, h.lease.committed y e, live) };
-        node = record { bare = λ e. fit.booking;
-            early = λ e q. absurd (let z : false ≡ true = e in cc);
-            level = λ y e. none_some (HasLevel sh r' y) e };
+      let u4 = creation sh r l c Remove h j live is refl refl in record {
+        book = record {
+          floor = h.book.floor;
+          at = h.book.at;
+          applies = λ y g e. h.book.applies y g (sym (old y) ∙ e);
+          doubt = λ y w d e. absurd (no y w d e);
+        };
+        lease = record {
+          kept = h.lease.kept;
+          zero = re_zero sh r l c h u1 u2 u3 u4;
+          drawn = re_drawn sh r l c h u1 u2 u3 u4;
+          fence = λ e. omega (arith, at_l);
+          committed = λ y e. omega (arith, h.lease.committed y e, live);
+        };
+        node = record {
+          bare = λ e. fit.booking;
+          early = λ e q. absurd (let z : false ≡ true = e in cc);
+          level = λ y e. none_some (HasLevel sh r' y) e;
+        };
         live = record {
           fits = λ y e q u. let v = sym (old y) ∙ u in
               fits y e q v (h.live.fits y e (omega (arith, q, live)) v);
@@ -96,11 +105,16 @@ module _ (sh : Shared) (r : Replica) (l : ℕ) (a b : Bool) (h : ReplicaClauses 
           issued = λ y n z e. h.commit.issued y n z (sym (old y) ∙ e);
           answered = λ y e. let v =
               h.commit.answered y (old_ack sh r l c Remove h j live is refl refl y e) in
-              record { issued = λ z. v.issued (sym (old y) ∙ z);
-              fence = omega (arith, v.fence, live); doubt = v.doubt };
+              record {
+                issued = λ z. v.issued (sym (old y) ∙ z);
+                fence = omega (arith, v.fence, live);
+                doubt = v.doubt;
+              };
         };
-        doubt = record { early = λ y w d e. absurd (no y w d e);
-            late = λ y w d e. absurd (no y w d e) };
+        doubt = record {
+          early = λ y w d e. absurd (no y w d e);
+          late = λ y w d e. absurd (no y w d e);
+        };
         ready = λ p e. none_some (ReadyClause sh r'.node p) e;
         create = record {
           creating = re_creating sh r l c h u1 u2 u3 u4;
@@ -108,8 +122,10 @@ module _ (sh : Shared) (r : Replica) (l : ℕ) (a b : Bool) (h : ReplicaClauses 
           fresh = h.create.fresh;
           made = λ y e. let v =
               h.create.made y (old_made sh r l c Remove h j live is refl refl y e) in
-              record { fence = omega (arith, v.fence, live);
-              level = λ q. absurd (omega (arith, v.fence, live, at_l, q)) };
+              record {
+                fence = omega (arith, v.fence, live);
+                level = λ q. absurd (omega (arith, v.fence, live, at_l, q));
+              };
         };
         copy = record {
           snapshot =
@@ -140,10 +156,10 @@ remove_keeps st t l a b i can =
     (removed_ok st.shared r l a b (i.replicas t) purpose live)
     (λ f. absurd (let z : Unused ≡ Deleting a = sym (f.purpose l) ∙ purpose in cc)) refl refl refl
     (λ k s g. value_case (λ v d. IsUpdate d s g → IsUpdate (r.purpose v) s g) r.purpose l
-        (Deleting b) k (λ q. absurd (let z : Deleting b ≡ Updating s g (q.0) (q.1) = q.2 in cc))
-        (λ z q. q))
+    (Deleting b) k (λ q. absurd (let z : Deleting b ≡ Updating s g (q.0) (q.1) = q.2 in cc))
+    (λ z q. q))
     (push_over r.purpose l (Deleting b)
-        (λ w q. absurd (let z : Deleting b ≡ Pushing w (q.0) (q.1) = q.2 in cc)))
+    (λ w q. absurd (let z : Deleting b ≡ Pushing w (q.0) (q.1) = q.2 in cc)))
     (λ p e q. absurd
-        (outside st.shared r l (Deleting b) Remove (i.replicas t) (ap is_job purpose) live
-        (ap effect purpose) refl refl p (p.told t) (p.cast t) ((i.turn p e).member t q)))
+    (outside st.shared r l (Deleting b) Remove (i.replicas t) (ap is_job purpose) live
+    (ap effect purpose) refl refl p (p.told t) (p.cast t) ((i.turn p e).member t q)))

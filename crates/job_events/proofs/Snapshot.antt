@@ -64,11 +64,14 @@ module _ (sh : Shared) (r : Replica) (l s g : ℕ) (x : Option (Content × ℕ))
           doubt = w.doubt;
           absent = w.absent;
           purpose = record {
-            update = λ u. let o = w.purpose.update u in
-                (s, Some (m, k), a,
-                (let z : Updating s g x a ≡ Updating (o.0) q.generation (o.1) (o.2) = sym purpose
-                ∙ o.3 in let i : g ≡ q.generation = cc in
-                ap (λ y. Updating s y (Some (m, k)) a) i));
+            update = λ u. let o = w.purpose.update u in (
+              s,
+              Some (m, k),
+              a,
+              (let z : Updating s g x a ≡ Updating (o.0) q.generation (o.1) (o.2) = sym purpose
+                  ∙ o.3 in let i : g ≡ q.generation = cc in
+                  ap (λ y. Updating s y (Some (m, k)) a) i),
+            );
             delete = λ u. let o = w.purpose.delete u in
                 absurd (let z : Updating s g x a ≡ Deleting (o.0) = sym purpose ∙ o.1 in cc);
           };
@@ -83,16 +86,33 @@ module _ (sh : Shared) (r : Replica) (l s g : ℕ) (x : Option (Content × ℕ))
       at = h.book.at;
       applies = λ y z e. h.book.applies y z (sym (effects y) ∙ e);
       doubt = λ y w d e. let v = h.book.doubt y w d e in
-          record { floor = v.floor; next = v.next; newest = v.newest; lease = v.lease;
-          purpose = re_push sh r l c h used push back creation y w v.purpose };
+          record {
+            floor = v.floor;
+            next = v.next;
+            newest = v.newest;
+            lease = v.lease;
+            purpose = re_push sh r l c h used push back creation y w v.purpose;
+          };
     };
-    lease = record { kept = h.lease.kept; zero = re_zero sh r l c h used push back creation;
-        drawn = re_drawn sh r l c h used push back creation; fence = h.lease.fence;
-        committed = h.lease.committed };
-    node = record { bare = h.node.bare; early = h.node.early;
-        level = λ y e. let v = h.node.level y e in
-        record { held = v.held; had = v.had; newest = v.newest; floor = v.floor;
-        content = v.content } };
+    lease = record {
+      kept = h.lease.kept;
+      zero = re_zero sh r l c h used push back creation;
+      drawn = re_drawn sh r l c h used push back creation;
+      fence = h.lease.fence;
+      committed = h.lease.committed;
+    };
+    node = record {
+      bare = h.node.bare;
+      early = h.node.early;
+      level = λ y e. let v = h.node.level y e in
+          record {
+            held = v.held;
+            had = v.had;
+            newest = v.newest;
+            floor = v.floor;
+            content = v.content;
+          };
+    };
     live = record {
       fits = λ y e b q. refit y e (h.live.fits y e b (sym (effects y) ∙ q));
       doubt = λ y w d e n b q. effects n ∙ h.live.doubt y w d e n b q;
@@ -121,23 +141,23 @@ module _ (sh : Shared) (r : Replica) (l s g : ℕ) (x : Option (Content × ℕ))
           λ y s2 g2 m2 k2 w. value_case
           (λ v d. d ≡ Updating s2 g2 (Some (m2, k2)) w → IsSnapshot sh g2 m2 k2) r.purpose l c y
           (λ q. let e1 : g ≡ g2 = cc in let e2 : ◌≡◌ {A = Content × ℕ} (m, k) (m2, k2) = cc in
-              subst (λ v. IsSnapshot sh v m2 k2) e1
-              (subst (λ (v : Content × ℕ). IsSnapshot sh g (v.0) (v.1)) e2 snap))
+          subst (λ v. IsSnapshot sh v m2 k2) e1
+          (subst (λ (v : Content × ℕ). IsSnapshot sh g (v.0) (v.1)) e2 snap))
           (λ z q. h.copy.snapshot y s2 g2 m2 k2 w q);
       answered =
           λ y s2 g2 o. value_case
           (λ v d. d ≡ Updating s2 g2 o true → r.kept ≡ v
           → IsApplied r.node.fence r.level v g2) r.purpose l c y
           (λ q b. let e1 : g ≡ g2 = cc in let e2 : a ≡ true = cc in
-              subst (λ v. IsApplied r.node.fence r.level l v) e1
-              (h.copy.answered l s g x (purpose ∙ ap (λ v. Updating s g x v) e2) b))
+          subst (λ v. IsApplied r.node.fence r.level l v) e1
+          (h.copy.answered l s g x (purpose ∙ ap (λ v. Updating s g x v) e2) b))
           (λ z q b. h.copy.answered y s2 g2 o q b);
     };
     fencing =
         fence_over r.purpose l c r.kept r.node.fence r.kept r.node.fence r.node.committed
-            r.node.committed h.fencing
-            (λ y e. let z : Updating s g (Some (m, k)) a ≡ Fencing (Some y) = e in cc) (omega arith)
-            (λ k z w q. (q, refl));
+        r.node.committed h.fencing
+        (λ y e. let z : Updating s g (Some (m, k)) a ≡ Fencing (Some y) = e in cc) (omega arith)
+        (λ k z w q. (q, refl));
     job = jobs;
   }
 
@@ -151,11 +171,14 @@ module _ (sh : Shared) (r : Replica) (l s g : ℕ) (x : Option (Content × ℕ))
       booking = elim v.booking [
         | inl z ↦ inl z
         | inr z ↦
-            inr (z.0,
-            value_case
-            (λ v w. is_committed (r.purpose v) ≡ true → is_committed w ≡ true) r.purpose l c p.lease
-            (λ q. absurd (let u : false ≡ true = sym (ap is_committed purpose) ∙ q in cc))
-            (λ n q. q) z.1, z.2)
+            inr (
+              z.0,
+              value_case
+                  (λ v w. is_committed (r.purpose v) ≡ true → is_committed w ≡ true) r.purpose l c p.lease
+                  (λ q. absurd (let u : false ≡ true = sym (ap is_committed purpose) ∙ q in cc))
+                  (λ n q. q) z.1,
+              z.2,
+            )
       ];
     };
     untold = λ e. let v = d.untold e in record {
@@ -175,10 +198,13 @@ module _ (sh : Shared) (r : Replica) (l s g : ℕ) (x : Option (Content × ℕ))
   pub snapped_updates : (y s2 g2 : ℕ) → IsUpdate (r'.purpose y) s2 g2 → IsUpdate (r.purpose y) s2 g2
   snapped_updates y s2 g2 =
       value_case (λ v d. IsUpdate d s2 g2 → IsUpdate (r.purpose v) s2 g2) r.purpose l c y
-      (λ q. (x, a,
-          (let z : Updating s g (Some (m, k)) a ≡ Updating s2 g2 (q.0) (q.1) = q.2 in
-          let e1 : s ≡ s2 = cc in let e2 : g ≡ g2 = cc in
-          purpose ∙ ap (λ v. Updating v g x a) e1 ∙ ap (λ v. Updating s2 v x a) e2)))
+      (λ q. (
+        x,
+        a,
+        (let z : Updating s g (Some (m, k)) a ≡ Updating s2 g2 (q.0) (q.1) = q.2 in
+            let e1 : s ≡ s2 = cc in let e2 : g ≡ g2 = cc in
+            purpose ∙ ap (λ v. Updating v g x a) e1 ∙ ap (λ v. Updating s2 v x a) e2),
+      ))
       (λ z q. q)
 
 pub snapshot_keeps : SnapshotKeeps
@@ -187,16 +213,19 @@ snapshot_keeps st t l s g k x a i c =
     let purpose = c.purpose in
     let o = i.source t l s g x a purpose in let v = (i.replicas s).node.level k c.level_ in
     let snap : IsSnapshot st.shared g src.node.refs k =
-        record { low = omega (arith, o.floor.2, v.floor (o.floor.0) o.floor.1); newest = v.newest;
-        content = v.content } in
+    record {
+      low = omega (arith, o.floor.2, v.floor (o.floor.0) o.floor.1);
+      newest = v.newest;
+      content = v.content;
+    } in
     replica_event st st.shared t (issued r l (Updating s g (Some (src.node.refs, k)) a)) i
-        (later_self st.shared) refl refl i.log
+    (later_self st.shared) refl refl i.log
     (snapped_ok st.shared r l s g x a src.node.refs k (i.replicas t) purpose snap)
     (λ f. absurd
-        (let z : Unused ≡ Updating s g x a = sym (f.purpose l) ∙ purpose in cc)) refl refl refl
+    (let z : Unused ≡ Updating s g x a = sym (f.purpose l) ∙ purpose in cc)) refl refl refl
     (snapped_updates st.shared r l s g x a src.node.refs k (i.replicas t) purpose snap)
     (push_over r.purpose l (Updating s g (Some (src.node.refs, k)) a)
-        (λ w q. absurd
-        (let z : Updating s g (Some (src.node.refs, k)) a ≡ Pushing w (q.0) (q.1) = q.2 in cc)))
+    (λ w q. absurd
+    (let z : Updating s g (Some (src.node.refs, k)) a ≡ Pushing w (q.0) (q.1) = q.2 in cc)))
     (λ p e q. snapped_member st.shared r l s g x a src.node.refs k (i.replicas t) purpose snap p
-        (p.told t) (p.cast t) ((i.turn p e).member t q))
+    (p.told t) (p.cast t) ((i.turn p e).member t q))

@@ -18,7 +18,7 @@ module _ (st : State) (t : ℕ) (r' : Replica) (i : Invariant st)
     (ok : ReplicaClauses (record st.shared { last = st.shared.last + 1 }) r')
     (known : t < st.admitted)
     (outside : (p : OpenPush) → st.turn ≡ Some p → p.members t ≡ false)
-        (floor : r'.floor ≡ (st.replica t).floor)
+    (floor : r'.floor ≡ (st.replica t).floor)
     (other : ((x : ℕ) → (with_value st.replica t r' x).booking ≡ Absent) → ⊥)
     (sources : (k a g : ℕ) → IsUpdate (r'.purpose k) a g → SourceClause st.replica t a g)
     (pushes : (k w : ℕ) → IsPush (r'.purpose k) w → IsPush ((st.replica t).purpose k) w) where
@@ -26,8 +26,15 @@ module _ (st : State) (t : ℕ) (r' : Replica) (i : Invariant st)
   sh' = record st.shared { last = st.shared.last + 1 }
 
   later : Later st.shared sh'
-  later = record { newest = omega arith; last = omega arith; creation = refl; lease = λ d b. refl;
-      hash = λ d b. refl; content = λ d x b e. e; text = λ a b. refl }
+  later = record {
+    newest = omega arith;
+    last = omega arith;
+    creation = refl;
+    lease = λ d b. refl;
+    hash = λ d b. refl;
+    content = λ d x b e. e;
+    text = λ a b. refl;
+  }
 
   floors : (x : ℕ) → (with_value st.replica t r' x).floor ≡ (st.replica x).floor
   floors x = value_case (λ y r. r.floor ≡ (st.replica y).floor) st.replica t r' x floor (λ n. refl)
@@ -50,12 +57,14 @@ module _ (st : State) (t : ℕ) (r' : Replica) (i : Invariant st)
         λ k. value_case
         (λ v w. p.members v ≡ true → MemberClause p (p.told v) (p.cast v) w) st.replica t r' k
         (λ q. absurd (not_member p e q)) (λ n. y.member k);
-    first = λ a k d f. let q = y.first a k d (sym (floors k) ∙ f) in
-        (q.0, q.1,
-            value_case
-            (λ v w. p.members v ≡ true → (st.replica v).booking ≡ At (p.begun + 1)
-            → w.booking ≡ At (p.begun + 1)) st.replica t r' (q.0) (λ m z. absurd (not_member p e m))
-            (λ n m z. z) q.1 q.2);
+    first = λ a k d f. let q = y.first a k d (sym (floors k) ∙ f) in (
+      q.0,
+      q.1,
+      value_case
+          (λ v w. p.members v ≡ true → (st.replica v).booking ≡ At (p.begun + 1)
+          → w.booking ≡ At (p.begun + 1)) st.replica t r' (q.0) (λ m z. absurd (not_member p e m))
+          (λ n m z. z) q.1 q.2,
+    );
   }
 
   pub draw_event : Invariant (draw_at st t r')
@@ -77,8 +86,12 @@ module _ (st : State) (t : ℕ) (r' : Replica) (i : Invariant st)
       zero_content = i.log.zero_content;
       given = i.log.given;
       pushed = λ n k b e. let q = i.log.pushed n k b e in
-          record { last = omega (arith, q.last); before = q.before; was = q.was;
-          filled = q.filled };
+          record {
+            last = omega (arith, q.last);
+            before = q.before;
+            was = q.was;
+            filled = q.filled;
+          };
     };
     replicas =
         λ x. value_case (λ y r. ReplicaClauses sh' r) st.replica t r' x ok
@@ -106,33 +119,47 @@ module _ (st : State) (t s : ℕ) (i : Invariant st) (c : CanTakeUpdate st t s) 
   h : ReplicaClauses sh2 (with_job r None)
   h = with_job_ok sh2 r None
       (replica_later st.shared sh2 r
-      (record { newest = omega arith; last = omega arith; creation = refl; lease = λ d b. refl;
-      hash = λ d b. refl; content = λ d x b e. e; text = λ a b. refl }) (i.replicas t))
+      (record {
+        newest = omega arith;
+        last = omega arith;
+        creation = refl;
+        lease = λ d b. refl;
+        hash = λ d b. refl;
+        content = λ d x b e. e;
+        text = λ a b. refl;
+      }) (i.replicas t))
       (λ k e. none_some (JobClause n r.kept r.purpose r.booking r.floor k) e)
 
   below : (x : ℕ) → r.booking ≡ At x → x < n
   below x e =
-      elim (three x n) [ inl lt ↦ lt
-      | inr w ↦
-      elim w [ inl q ↦ absurd (c.behind (e ∙ ap At q))
-      | inr gt ↦
-      absurd (omega (arith, gt, (i.replicas t).book.floor x ((i.replicas t).book.at x e))) ] ]
+      elim (three x n) [
+        | inl lt ↦ lt
+        | inr w ↦
+            elim w [
+              | inl q ↦ absurd (c.behind (e ∙ ap At q))
+              | inr gt ↦
+                  absurd (omega (arith, gt, (i.replicas t).book.floor x ((i.replicas t).book.at x e)))
+            ]
+      ]
 
   fit : FitsApply (with_job r None) n
-  fit = record { at = below; doubt = λ a w d e. ((i.replicas t).book.doubt a w d e).newest;
-      floor = (i.replicas t).book.floor }
+  fit = record {
+    at = below;
+    doubt = λ a w d e. ((i.replicas t).book.doubt a w d e).newest;
+    floor = (i.replicas t).book.floor;
+  }
 
   drawn_replica : ReplicaClauses sh2 (drawn (with_job r None) l purpose)
   drawn_replica =
       drawn_ok sh2 (with_job r None) l purpose h refl (omega (arith, (i.replicas t).lease.kept))
       (omega (arith, i.log.creation)) refl refl
       (λ m x a q. absurd (let z : Updating s n None false ≡ Pushing m x a = q in cc))
-          (λ g q. let z : n ≡ g = cc in omega (arith, z))
+      (λ g q. let z : n ≡ g = cc in omega (arith, z))
       (λ e q. subst (λ y. FitsEffect (with_job r None) l y) (let z : Apply n ≡ e = cc in z) fit)
-          (λ m x q. let z : Apply n ≡ Commit m x = cc in cc)
+      (λ m x q. let z : Apply n ≡ Commit m x = cc in cc)
       (λ j k a b. none_some ⊥ a)
-          (λ a g x b q. ((let z : None ≡ x = cc in sym z), (let z : false ≡ b = cc in sym z)))
-          (λ y e. let z : Updating s n None false ≡ Fencing (Some y) = e in cc)
+      (λ a g x b q. ((let z : None ≡ x = cc in sym z), (let z : false ≡ b = cc in sym z)))
+      (λ y e. let z : Updating s n None false ≡ Fencing (Some y) = e in cc)
 
   abbrev job : Job
   job = record { update = true; generation = n; state = Running l }
@@ -144,15 +171,17 @@ module _ (st : State) (t s : ℕ) (i : Invariant st) (c : CanTakeUpdate st t s) 
     running =
         λ k e. subst (λ v. IsRunning l (with_value r.purpose l purpose v) r.booking r.floor job v)
         (let z : Running l ≡ Running k = e in let w : l ≡ k = cc in w) (record {
-      lease = refl;
-      purpose =
-          record { update = λ u. (s, None, false, value_here r.purpose l purpose);
-          delete = λ u. absurd (let z : true ≡ false = u in cc) };
-      low = λ u f q. (i.replicas t).book.floor f q;
-      at = λ u q. c.behind q;
-      doubt = λ u a w d q. ((i.replicas t).book.doubt a w d q).newest;
-      absent = λ u. absurd (let z : true ≡ false = u in cc);
-    });
+          lease = refl;
+          purpose =
+              record {
+                update = λ u. (s, None, false, value_here r.purpose l purpose);
+                delete = λ u. absurd (let z : true ≡ false = u in cc);
+              };
+          low = λ u f q. (i.replicas t).book.floor f q;
+          at = λ u q. c.behind q;
+          doubt = λ u a w d q. ((i.replicas t).book.doubt a w d q).newest;
+          absent = λ u. absurd (let z : true ≡ false = u in cc);
+        });
   }
 
   replica : ReplicaClauses sh2 (taken r l purpose true n r.booking)
@@ -170,15 +199,15 @@ module _ (st : State) (t s : ℕ) (i : Invariant st) (c : CanTakeUpdate st t s) 
       ∙ sym (ap (λ v. v.booking)
       (value_elsewhere st.replica t (taken r l purpose true n r.booking) s apart)) ∙ a s in cc)
       (λ k a g. value_case
-          (λ v d. IsUpdate d a g → SourceClause st.replica t a g) r.purpose l purpose k
+      (λ v d. IsUpdate d a g → SourceClause st.replica t a g) r.purpose l purpose k
       (λ q. let w : Updating s n None false ≡ Updating a g (q.0) (q.1) = q.2 in
-          let e1 : s ≡ a = cc in let e2 : n ≡ g = cc in
+      let e1 : s ≡ a = cc in let e2 : n ≡ g = cc in
       subst (λ v. SourceClause st.replica t v g) e1
-          (subst (λ v. SourceClause st.replica t s v) e2
-          (record { other = apart; floor = (n, (i.replicas s).book.at n c.source_, omega arith) })))
+      (subst (λ v. SourceClause st.replica t s v) e2
+      (record { other = apart; floor = (n, (i.replicas s).book.at n c.source_, omega arith) })))
       (λ z q. i.source t k a g (q.0) (q.1) (q.2)))
       (push_over r.purpose l purpose
-          (λ w q. absurd (let z : Updating s n None false ≡ Pushing w (q.0) (q.1) = q.2 in cc)))
+      (λ w q. absurd (let z : Updating s n None false ≡ Pushing w (q.0) (q.1) = q.2 in cc)))
 
 pub take_update_keeps : TakeUpdateKeeps
 take_update_keeps st t s i c = take st t s i c

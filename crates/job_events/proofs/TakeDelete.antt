@@ -38,16 +38,19 @@ module _ (sh : Shared) (r : Replica) (l : ℕ) (h : ReplicaClauses sh r) (last :
   fits k Create x = x
   fits k (Commit n y) x = record { level = x.level; floor = x.floor; booking = inl refl }
   fits k (Apply g) x =
-      record { at = λ y e. absurd (let z : Absent ≡ At y = e in cc);
-      doubt = λ a w d e. absurd (no a w d e); floor = x.floor }
+      record {
+        at = λ y e. absurd (let z : Absent ≡ At y = e in cc);
+        doubt = λ a w d e. absurd (no a w d e);
+        floor = x.floor;
+      }
   fits k Remove x = record { booking = refl; floor = x.floor }
 
   acks : (k : ℕ) → is_committed (r'.purpose k) ≡ true → IsAnswered r' k
   acks k e =
       let q = value_case
-          (λ v d. is_committed d ≡ true → (effect d ≡ None → ⊥)
-          × (v < r.node.fence)) r.purpose l c k (λ q. absurd (let z : false ≡ true = q in cc))
-          (λ z q. let v = h.commit.answered k q in (v.issued, v.fence)) e in
+      (λ v d. is_committed d ≡ true → (effect d ≡ None → ⊥)
+      × (v < r.node.fence)) r.purpose l c k (λ q. absurd (let z : false ≡ true = q in cc))
+      (λ z q. let v = h.commit.answered k q in (v.issued, v.fence)) e in
       record { issued = q.0; fence = q.1; doubt = λ w d e. absurd (no k w d e) }
 
   running : JobClause sh.newest l r'.purpose Absent r.floor job
@@ -57,15 +60,17 @@ module _ (sh : Shared) (r : Replica) (l : ℕ) (h : ReplicaClauses sh r) (last :
     running =
         λ k e. subst (λ v. IsRunning l (r'.purpose v) Absent r.floor job v)
         (let z : Running l ≡ Running k = e in let w : l ≡ k = cc in w) (record {
-      lease = refl;
-      absent = λ u. refl;
-      purpose =
-          record { update = λ u. absurd (let z : false ≡ true = u in cc);
-          delete = λ u. (false, value_here r.purpose l c) };
-      low = λ u. absurd (let z : false ≡ true = u in cc);
-      at = λ u. absurd (let z : false ≡ true = u in cc);
-      doubt = λ u. absurd (let z : false ≡ true = u in cc);
-    });
+          lease = refl;
+          absent = λ u. refl;
+          purpose =
+              record {
+                update = λ u. absurd (let z : false ≡ true = u in cc);
+                delete = λ u. (false, value_here r.purpose l c);
+              };
+          low = λ u. absurd (let z : false ≡ true = u in cc);
+          at = λ u. absurd (let z : false ≡ true = u in cc);
+          doubt = λ u. absurd (let z : false ≡ true = u in cc);
+        });
   }
 
   pub deleting_ok : ReplicaClauses sh r'
@@ -90,22 +95,27 @@ module _ (sh : Shared) (r : Replica) (l : ℕ) (h : ReplicaClauses sh r) (last :
       bare = λ e. refl;
       early = h.node.early;
       level = λ k e. let v = h.node.level k e in
-          record { held = v.held; had = v.had; newest = v.newest; floor = v.floor;
-          content = v.content };
+          record {
+            held = v.held;
+            had = v.had;
+            newest = v.newest;
+            floor = v.floor;
+            content = v.content;
+          };
     };
     live = record {
       fits = λ k e a q. value_case
           (λ v d. r.node.fence ≤ v → effect d ≡ Some e → FitsEffect r' v e) r.purpose l c k
           (λ s t. subst (λ y. FitsEffect r' l y) (let z : Remove ≡ e = cc in z)
-              (record { booking = refl; floor = floor }))
-              (λ z s t. fits k e (h.live.fits k e s t)) a q;
+          (record { booking = refl; floor = floor }))
+          (λ z s t. fits k e (h.live.fits k e s t)) a q;
       doubt = λ a w d e. absurd (no a w d e);
       commit =
           λ k n x a q. value_case
           (λ v d. r.node.fence ≤ v → effect d ≡ Some (Commit n x) → QuietBelow r' v) r.purpose l c k
           (λ s t. absurd (let z : Remove ≡ Commit n x = cc in cc))
           (λ z s t. quiet k (old k (λ y. none_some ⊥ (sym (ap effect y) ∙ t)))
-              (h.live.commit k n x s t)) a q;
+          (h.live.commit k n x s t)) a q;
     };
     commit = record {
       begun = λ k n x a e. value_case (λ v d. d ≡ Pushing n x a → n ≤ sh.newest) r.purpose l c k
@@ -117,8 +127,10 @@ module _ (sh : Shared) (r : Replica) (l : ℕ) (h : ReplicaClauses sh r) (last :
           (λ q. absurd (let z : Remove ≡ Commit n x = cc in cc)) (λ z q. h.commit.issued k n x q) e;
       answered = acks;
     };
-    doubt = record { early = λ a w d e. absurd (no a w d e);
-        late = λ a w d e. absurd (no a w d e) };
+    doubt = record {
+      early = λ a w d e. absurd (no a w d e);
+      late = λ a w d e. absurd (no a w d e);
+    };
     ready = h.ready;
     create = record {
       creating =
@@ -130,7 +142,7 @@ module _ (sh : Shared) (r : Replica) (l : ℕ) (h : ReplicaClauses sh r) (last :
       made = λ k e. value_case (λ v d. d ≡ Creation true → IsMade r' v) r.purpose l c k
           (λ q. absurd (let z : Deleting false ≡ Creation true = q in cc))
           (λ z q. let v = h.create.made k q in
-              record { fence = v.fence; level = λ y. absurd (z (sym y)) }) e;
+          record { fence = v.fence; level = λ y. absurd (z (sym y)) }) e;
       fresh = λ a b d. absurd (omega (arith, b, creation));
     };
     copy = record {
@@ -148,8 +160,8 @@ module _ (sh : Shared) (r : Replica) (l : ℕ) (h : ReplicaClauses sh r) (last :
     };
     fencing =
         fence_over r.purpose l c r.kept r.node.fence l r.node.fence r.node.committed
-            r.node.committed h.fencing (λ y e. let z : Deleting false ≡ Fencing (Some y) = e in cc)
-            (omega arith) (λ k z w q. absurd (z (sym q)));
+        r.node.committed h.fencing (λ y e. let z : Deleting false ≡ Fencing (Some y) = e in cc)
+        (omega arith) (λ k z w q. absurd (z (sym q)));
     job = λ j e. subst (λ v. JobClause sh.newest l r'.purpose Absent r.floor v)
         (let z : job ≡ j = cc in z) running;
   }
@@ -159,27 +171,34 @@ take_delete_keeps st t i c =
     let r = st.replica t in let l = st.shared.last + 1 in
     let sh : Shared = record st.shared { last = st.shared.last + 1 } in
     let h : ReplicaClauses sh r =
-        replica_later st.shared sh r
-        (record { newest = omega arith; last = omega arith; creation = refl; lease = λ d b. refl;
-        hash = λ d b. refl; content = λ d x b e. e; text = λ a b. refl }) (i.replicas t) in
+    replica_later st.shared sh r
+    (record {
+      newest = omega arith;
+      last = omega arith;
+      creation = refl;
+      lease = λ d b. refl;
+      hash = λ d b. refl;
+      content = λ d x b e. e;
+      text = λ a b. refl;
+    }) (i.replicas t) in
     let s = i.shape.some.0 in
     let cur = c.current s i.shape.some.1 in
     let apart : s ≡ t
-        → ⊥ = λ e. absurd
-        (let z : true ≡ false = sym i.shape.some.1 ∙ ap st.assigned e ∙ c.unassigned in cc) in
+    → ⊥ = λ e. absurd
+    (let z : true ≡ false = sym i.shape.some.1 ∙ ap st.assigned e ∙ c.unassigned in cc) in
     draw_event st t (taken r l (Deleting false) false st.shared.newest Absent) i
     (deleting_ok sh r l h refl (omega (arith, (i.replicas t).lease.kept))
-        (omega (arith, i.log.creation))
-        (((i.replicas t).job
-        (record { update = false; generation = c.job.0; state = Waiting }) c.job.1).deleting refl))
+    (omega (arith, i.log.creation))
+    (((i.replicas t).job
+    (record { update = false; generation = c.job.0; state = Waiting }) c.job.1).deleting refl))
     c.known c.outside refl
-        (λ a. let z : At st.shared.newest ≡ Absent = sym cur
-        ∙ sym (ap (λ v. v.booking)
-        (value_elsewhere st.replica t
-        (taken r l (Deleting false) false st.shared.newest Absent) s apart)) ∙ a s in cc)
+    (λ a. let z : At st.shared.newest ≡ Absent = sym cur
+    ∙ sym (ap (λ v. v.booking)
+    (value_elsewhere st.replica t
+    (taken r l (Deleting false) false st.shared.newest Absent) s apart)) ∙ a s in cc)
     (λ k a g. value_case (λ v d. IsUpdate d a g → SourceClause st.replica t a g) r.purpose l
-        (Deleting false) k
+    (Deleting false) k
     (λ q. absurd (let w : Deleting false ≡ Updating a g (q.0) (q.1) = q.2 in cc))
-        (λ z q. i.source t k a g (q.0) (q.1) (q.2)))
+    (λ z q. i.source t k a g (q.0) (q.1) (q.2)))
     (push_over r.purpose l (Deleting false)
-        (λ w q. absurd (let z : Deleting false ≡ Pushing w (q.0) (q.1) = q.2 in cc)))
+    (λ w q. absurd (let z : Deleting false ≡ Pushing w (q.0) (q.1) = q.2 in cc)))

@@ -159,7 +159,13 @@ pub fn grow<O: Sink>(alloc: Global, count: &str, turns: &str, out: &mut O) -> Re
     let mut node = pushed(alloc, 1, 0)?;
     let paths = paths(alloc, 1)?;
     let push = first_push(alloc, number(count)?)?;
-    send(alloc, &mut node, paths.first().ok_or(End::Usage)?, lease(2)?, &push)?;
+    send(
+        alloc,
+        &mut node,
+        paths.first().ok_or(End::Usage)?,
+        lease(2)?,
+        &push,
+    )?;
     push_all(alloc, &mut node, &paths, number(turns)?)?;
     tell(alloc, &mut node, out)
 }

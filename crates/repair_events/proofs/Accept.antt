@@ -17,7 +17,7 @@ use Rattle.push_events.proofs.Values.{none_some, three, value_case, value_elsewh
 module _ (sh : Shared) (r : Replica) (answer : Option ℕ) (h : ReplicaClauses sh r)
     (purpose : r.purpose r.kept ≡ Fencing (Some answer))
     (old : ℕ) (level : r.level ≡ Some old)
-        (content : (sh.entry sh.newest).content ≡ Some r.node.refs) where
+    (content : (sh.entry sh.newest).content ≡ Some r.node.refs) where
   abbrev g : ℕ
   g = sh.newest
 
@@ -35,14 +35,23 @@ module _ (sh : Shared) (r : Replica) (answer : Option ℕ) (h : ReplicaClauses s
       doubt = λ l was due e. absurd (let z : At g ≡ Doubt l was due = e in cc);
       applies = h.book.applies;
     };
-    lease = record { kept = h.lease.kept; zero = h.lease.zero; drawn = h.lease.drawn;
-        fence = λ e. h.lease.fence v.had; committed = h.lease.committed };
+    lease = record {
+      kept = h.lease.kept;
+      zero = h.lease.zero;
+      drawn = h.lease.drawn;
+      fence = λ e. h.lease.fence v.had;
+      committed = h.lease.committed;
+    };
     node = record {
       bare = λ e. none_some (At g ≡ Absent) (sym e);
       level = λ x e. let y : g ≡ x = cc in
-          record { held = v.held; had = refl; newest = omega (arith, y);
-              floor = λ f q. let w : g ≡ f = cc in omega (arith, w, y);
-              content = subst (λ d. (sh.entry d).content ≡ Some r.node.refs) y content };
+          record {
+            held = v.held;
+            had = refl;
+            newest = omega (arith, y);
+            floor = λ f q. let w : g ≡ f = cc in omega (arith, w, y);
+            content = subst (λ d. (sh.entry d).content ≡ Some r.node.refs) y content;
+          };
       early = λ e q. none_some (Some g ≡ None) (sym q);
     };
     live = dead_live r' (fence_dead sh r answer h purpose);
@@ -50,8 +59,11 @@ module _ (sh : Shared) (r : Replica) (answer : Option ℕ) (h : ReplicaClauses s
       begun = h.commit.begun;
       issued = h.commit.issued;
       answered = λ l a. let o = h.commit.answered l a in
-          record { issued = o.issued; fence = o.fence;
-          doubt = λ was due e. absurd (let z : At g ≡ Doubt l was due = e in cc) };
+          record {
+            issued = o.issued;
+            fence = o.fence;
+            doubt = λ was due e. absurd (let z : At g ≡ Doubt l was due = e in cc);
+          };
     };
     doubt = record {
       early = λ l was due e. absurd (let z : At g ≡ Doubt l was due = e in cc);
@@ -62,10 +74,12 @@ module _ (sh : Shared) (r : Replica) (answer : Option ℕ) (h : ReplicaClauses s
       creating = h.create.creating;
       early = h.create.early;
       made = λ l e. let o = h.create.made l e in
-          record { fence = o.fence;
-          level = λ q. absurd
-          (let z : Fencing (Some answer) ≡ Creation true = sym purpose ∙ ap r.purpose q ∙ e in
-          cc) };
+          record {
+            fence = o.fence;
+            level = λ q. absurd
+                (let z : Fencing (Some answer) ≡ Creation true = sym purpose ∙ ap r.purpose q ∙ e in
+                cc);
+          };
       fresh = λ x y z. absurd (let w : At g ≡ Absent = z in cc);
     };
     copy = record {
@@ -142,9 +156,11 @@ module _ (st : State) (s : ℕ) (i : Invariant st) (c : CanAccept st s) where
           i.log.given d o (sym (ap (λ x. x.lease) (old_entry d o)) ∙ e)
           (sym (ap (λ x. x.content) (old_entry d o)) ∙ f)
       | inr w ↦
-          elim w [ inl eq ↦
-          none_some ⊥ (sym f ∙ ap (λ x. (sh'.entry x).content) eq ∙ ap (λ x. x.content) new_entry)
-          | inr gt ↦ absurd (omega (arith, gt, b)) ]
+          elim w [
+            | inl eq ↦
+                none_some ⊥ (sym f ∙ ap (λ x. (sh'.entry x).content) eq ∙ ap (λ x. x.content) new_entry)
+            | inr gt ↦ absurd (omega (arith, gt, b))
+          ]
     ];
     pushed = λ d l b e. elim (three d n) [
       | inl lt ↦ pushed_old d l lt e
@@ -167,9 +183,9 @@ module _ (st : State) (s : ℕ) (i : Invariant st) (c : CanAccept st s) where
         (λ e. (n + 1, refl, (let b = (i.replicas s).book.floor f e in omega (arith, b))))
         (λ m e. (f, e, omega arith)))
         (λ t l a y. value_case
-            (λ z w. IsUpdate (w.purpose l) a y
-            → IsUpdate ((st.replica z).purpose l) a y) st.replica s new t (λ v. v)
-            (λ z v. v)) i.source;
+        (λ z w. IsUpdate (w.purpose l) a y
+        → IsUpdate ((st.replica z).purpose l) a y) st.replica s new t (λ v. v)
+        (λ z v. v)) i.source;
     shape = record {
       some = i.shape.some;
       known = i.shape.known;

@@ -56,16 +56,33 @@ module _ (sh : Shared) (r : Replica) (l : ℕ) (x : Option (Option ℕ)) (h : Re
       at = h.book.at;
       applies = λ y z e. h.book.applies y z (sym (effects y) ∙ e);
       doubt = λ y w d e. let v = h.book.doubt y w d e in
-          record { floor = v.floor; next = v.next; newest = v.newest; lease = v.lease;
-          purpose = re_push sh r l c h used push back creation y w v.purpose };
+          record {
+            floor = v.floor;
+            next = v.next;
+            newest = v.newest;
+            lease = v.lease;
+            purpose = re_push sh r l c h used push back creation y w v.purpose;
+          };
     };
-    lease = record { kept = h.lease.kept; zero = re_zero sh r l c h used push back creation;
-        drawn = re_drawn sh r l c h used push back creation; fence = h.lease.fence;
-        committed = h.lease.committed };
-    node = record { bare = h.node.bare; early = h.node.early;
-        level = λ y e. let v = h.node.level y e in
-        record { held = v.held; had = v.had; newest = v.newest; floor = v.floor;
-        content = v.content } };
+    lease = record {
+      kept = h.lease.kept;
+      zero = re_zero sh r l c h used push back creation;
+      drawn = re_drawn sh r l c h used push back creation;
+      fence = h.lease.fence;
+      committed = h.lease.committed;
+    };
+    node = record {
+      bare = h.node.bare;
+      early = h.node.early;
+      level = λ y e. let v = h.node.level y e in
+          record {
+            held = v.held;
+            had = v.had;
+            newest = v.newest;
+            floor = v.floor;
+            content = v.content;
+          };
+    };
     live = record {
       fits = λ y e b q. refit y e (h.live.fits y e b (sym (effects y) ∙ q));
       doubt = λ y w d e n b q. effects n ∙ h.live.doubt y w d e n b q;
@@ -110,7 +127,7 @@ module _ (sh : Shared) (r : Replica) (l : ℕ) (x : Option (Option ℕ)) (h : Re
       same = λ y o. value_case
           (λ v d. d ≡ Fencing (Some o) → r.kept ≡ v → r.node.committed ≡ o) r.purpose l c y
           (λ q w. let z : Fencing (Some r.node.committed) ≡ Fencing (Some o) = q in cc)
-              (λ z q w. h.fencing.same y o q w);
+          (λ z q w. h.fencing.same y o q w);
     };
     job = job_over sh r l c h (ap is_job purpose);
   }
@@ -125,11 +142,14 @@ module _ (sh : Shared) (r : Replica) (l : ℕ) (x : Option (Option ℕ)) (h : Re
       booking = elim v.booking [
         | inl z ↦ inl z
         | inr z ↦
-            inr (z.0,
-            value_case
-            (λ v w. is_committed (r.purpose v) ≡ true → is_committed w ≡ true) r.purpose l c p.lease
-            (λ q. absurd (let u : false ≡ true = sym (ap is_committed purpose) ∙ q in cc))
-            (λ n q. q) z.1, z.2)
+            inr (
+              z.0,
+              value_case
+                  (λ v w. is_committed (r.purpose v) ≡ true → is_committed w ≡ true) r.purpose l c p.lease
+                  (λ q. absurd (let u : false ≡ true = sym (ap is_committed purpose) ∙ q in cc))
+                  (λ n q. q) z.1,
+              z.2,
+            )
       ];
     };
     untold = λ e. let v = d.untold e in record {
@@ -159,8 +179,10 @@ module _ (st : State) (t l f : ℕ) (o : Option ReadyPush) (i : Invariant st)
 
   bound : w.had ≡ true → f ≤ w.kept + 1
   bound e =
-      elim c2.least [ inl q ↦ omega (arith, q, named)
-      | inr q ↦ omega (arith, q, (i.replicas t).lease.fence e) ]
+      elim c2.least [
+        | inl q ↦ omega (arith, q, named)
+        | inr q ↦ omega (arith, q, (i.replicas t).lease.fence e)
+      ]
 
   ready : (p : ReadyPush) → o ≡ Some p → ReadyClause sh2 (fenced w f o).node p
   ready p e = elim c2.ready_ [
@@ -176,20 +198,20 @@ module _ (st : State) (t l f : ℕ) (o : Option ReadyPush) (i : Invariant st)
   keeps = replica_event st sh2 t (fence_answered w l f o) i (later_self sh2) refl refl i.log
       (answered_ok sh2 (fenced w f o) l (c2.purpose.0) fence_raised c2.purpose.1 c2.reach)
       (λ q. absurd
-          (let z : Unused ≡ Fencing (c2.purpose.0) = sym (q.purpose l) ∙ c2.purpose.1 in
-          cc)) refl refl refl
+      (let z : Unused ≡ Fencing (c2.purpose.0) = sym (q.purpose l) ∙ c2.purpose.1 in
+      cc)) refl refl refl
       (λ k a n. value_case (λ v d. IsUpdate d a n → IsUpdate (w.purpose v) a n) w.purpose l
-          (Fencing (Some w.node.committed)) k
-          (λ q. absurd
-          (let z : Fencing (Some w.node.committed) ≡ Updating a n (q.0) (q.1) = q.2 in cc))
-          (λ z q. q))
+      (Fencing (Some w.node.committed)) k
+      (λ q. absurd
+      (let z : Fencing (Some w.node.committed) ≡ Updating a n (q.0) (q.1) = q.2 in cc))
+      (λ z q. q))
       (push_over w.purpose l (Fencing (Some w.node.committed))
-          (λ n q. absurd
-          (let z : Fencing (Some w.node.committed) ≡ Pushing n (q.0) (q.1) = q.2 in cc)))
+      (λ n q. absurd
+      (let z : Fencing (Some w.node.committed) ≡ Pushing n (q.0) (q.1) = q.2 in cc)))
       (λ p e m. answered_member sh2 (fenced w f o) l
-          (c2.purpose.0) fence_raised c2.purpose.1 c2.reach p (p.told t) (p.cast t)
+      (c2.purpose.0) fence_raised c2.purpose.1 c2.reach p (p.told t) (p.cast t)
       (raised_member sh2 w f o (i.replicas t) c2.up bound ready p (p.told t) (p.cast t)
-          ((i.turn p e).member t m)))
+      ((i.turn p e).member t m)))
 
 pub fence_answer_keeps : FenceAnswerKeeps
 fence_answer_keeps st t l f o i c = keeps st t l f o i c

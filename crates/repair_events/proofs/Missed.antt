@@ -23,8 +23,10 @@ module _ (st : State) (s l f : ℕ) (o : Option ReadyPush) (i : Invariant st)
 
   bound : r.had ≡ true → f ≤ r.kept + 1
   bound e = let n = used_named sh r (i.replicas s).lease l used in
-      elim c.least [ inl q ↦ omega (arith, q, n)
-          | inr q ↦ omega (arith, q, (i.replicas s).lease.fence e) ]
+      elim c.least [
+        | inl q ↦ omega (arith, q, n)
+        | inr q ↦ omega (arith, q, (i.replicas s).lease.fence e)
+      ]
 
   ready : (p : ReadyPush) → o ≡ Some p → ReadyClause sh (fenced r f o).node p
   ready p e = elim c.ready_ [
@@ -38,7 +40,7 @@ module _ (st : State) (s l f : ℕ) (o : Option ReadyPush) (i : Invariant st)
       (raised_ok sh r f o (i.replicas s) c.up bound ready)
       (λ q. absurd (used (q.purpose l))) refl refl refl (λ k a n q. q) (λ k w q. q)
       (λ p e m. raised_member sh r f o (i.replicas s) c.up bound ready p (p.told s) (p.cast s)
-          ((i.turn p e).member s m))
+      ((i.turn p e).member s m))
 
 pub fence_miss_keeps : FenceMissKeeps
 fence_miss_keeps st s l f o i c = missed st s l f o i c

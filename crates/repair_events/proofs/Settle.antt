@@ -88,8 +88,10 @@ module _ (st : State) (s : ℕ) (answer : Option ℕ) (lease was due g : ℕ) (i
   low : (f : ℕ) → r.floor ≡ Some f → f ≤ g
   low f e = let z : Some was ≡ Some f = sym doubt.floor ∙ e in let y : was ≡ f = cc in
       let n = doubt.next in
-      elim c.tells [ inl t ↦ (let q = t.1 in omega (arith, y, n, q))
-          | inr t ↦ (let q = t.1 in omega (arith, y, q)) ]
+      elim c.tells [
+        | inl t ↦ (let q = t.1 in omega (arith, y, n, q))
+        | inr t ↦ (let q = t.1 in omega (arith, y, q))
+      ]
 
   -- where the new booking is that of the open push's entry, it was booked before
   was_there : (p : OpenPush) → st.turn ≡ Some p
@@ -119,7 +121,7 @@ module _ (st : State) (s : ℕ) (answer : Option ℕ) (lease was due g : ℕ) (i
         (booked_at r g) k (λ q. absurd (outside p y q)) (λ n. y.member k);
     first = λ a k d f.
         let q : (v : ℕ) × (p.members v ≡ true)
-            × ((st.replica v).booking ≡ At (p.begun + 1)) = elim (bool (k == s)) [
+        × ((st.replica v).booking ≡ At (p.begun + 1)) = elim (bool (k == s)) [
           | inl b ↦
               (let z : Some g ≡ Some (p.begun + 1) =
               sym (ap (λ w. w.floor) (value_here st.replica s (booked_at r g)))
@@ -130,12 +132,14 @@ module _ (st : State) (s : ℕ) (answer : Option ℕ) (lease was due g : ℕ) (i
               y.first a k d
               (sym (ap (λ w. w.floor)
               (value_elsewhere st.replica s (booked_at r g) k (unequal k s b))) ∙ f)
-        ] in
-        (q.0, q.1,
-            value_case
-            (λ v w. p.members v ≡ true → (st.replica v).booking ≡ At (p.begun + 1)
-            → w.booking ≡ At (p.begun + 1)) st.replica s (booked_at r g) (q.0)
-            (λ m z. absurd (outside p y m)) (λ n m z. z) q.1 q.2);
+        ] in (
+          q.0,
+          q.1,
+          value_case
+              (λ v w. p.members v ≡ true → (st.replica v).booking ≡ At (p.begun + 1)
+              → w.booking ≡ At (p.begun + 1)) st.replica s (booked_at r g) (q.0)
+              (λ m z. absurd (outside p y m)) (λ n m z. z) q.1 q.2,
+        );
   }
 
   settled : Invariant (record st { replica = with_value st.replica s (booked_at r g) })

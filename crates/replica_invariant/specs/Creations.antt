@@ -75,7 +75,7 @@ abbrev pub FirstCreateKeeps : Type 0
 FirstCreateKeeps =
     (node : ℕ → AtNode) (text : ℕ → Vote → Updates) (admitted : ℕ) (chosen : ℕ → Bool)
     → ((storage : ℕ) → IsFromBefore (node storage) text)
-        → CanCreate (opening node text admitted) chosen
+    → CanCreate (opening node text admitted) chosen
     → Invariant (created (opening node text admitted) chosen)
 
 -- ---- a create is delivered; `answered` says whether its answer is kept
@@ -130,4 +130,4 @@ abbrev pub AssignKeeps : Type 0
 AssignKeeps = (state : State) (chosen : ℕ → Bool) → Invariant state
     → ((storage : ℕ) × (chosen storage ≡ true))
     → ((storage : ℕ) → state.admitted ≤ storage → chosen storage ≡ false)
-        → Invariant (record state { assigned = chosen })
+    → Invariant (record state { assigned = chosen })

@@ -46,8 +46,8 @@ FailKeeps = (state : State) (target : ℕ) (job : Job) (then_ : JobState) → In
     → (state.replica target).job ≡ Some job
     → ((lease : ℕ) → then_ ≡ Running lease → ⊥)
     → Invariant
-        (with_replica state target
-        (with_job (state.replica target) (Some (record job { state = then_ }))))
+    (with_replica state target
+    (with_job (state.replica target) (Some (record job { state = then_ }))))
 
 -- ---- a worker takes it: a lease is drawn for the target
 
@@ -101,7 +101,7 @@ pub record CanTakeDelete (state : State) (target : ℕ) : Type 0 where
 abbrev pub delete_taken : State → ℕ → State
 delete_taken state target = draw_at state target
     (taken (state.replica target) (state.shared.last + 1)
-        (Deleting false) false state.shared.newest Absent)
+    (Deleting false) false state.shared.newest Absent)
 
 abbrev pub TakeDeleteKeeps : Type 0
 TakeDeleteKeeps = (state : State) (target : ℕ) → Invariant state → CanTakeDelete state target
@@ -121,9 +121,9 @@ SnapshotKeeps =
     (answered : Bool) → Invariant state
     → CanRead state target lease source generation level before answered
     → Invariant
-        (with_replica state target
-        (issued (state.replica target) lease
-        (Updating source generation (Some ((state.replica source).node.refs, level)) answered)))
+    (with_replica state target
+    (issued (state.replica target) lease
+    (Updating source generation (Some ((state.replica source).node.refs, level)) answered)))
 
 -- ---- an apply is delivered; `answered` says whether its answer is kept
 
@@ -153,8 +153,8 @@ ApplyKeeps =
     (before answered : Bool) → Invariant state
     → CanApply (state.replica target) lease source generation level refs before
     → Invariant
-        (with_replica state target
-        (applied (state.replica target) lease source generation refs level answered))
+    (with_replica state target
+    (applied (state.replica target) lease source generation refs level answered))
 
 -- ---- a remove is delivered; `answered` says whether its answer is kept
 

@@ -28,7 +28,7 @@ begun state members = record state {
   replica = λ storage.
       if members storage
       then drawn (state.replica storage) (state.shared.last + 1)
-          (Pushing state.shared.newest None false)
+      (Pushing state.shared.newest None false)
       else state.replica storage;
   turn = Some (record {
     lease = state.shared.last + 1;
@@ -87,8 +87,8 @@ AbortKeeps = (state : State) (storage lease : ℕ) → Invariant state
 abbrev pub LoseKeeps : Type 0
 LoseKeeps = (state : State) (storage : ℕ) → Invariant state
     → Invariant
-        (with_replica state storage
-        (raised (state.replica storage) (state.replica storage).node.fence))
+    (with_replica state storage
+    (raised (state.replica storage) (state.replica storage).node.fence))
 
 -- ---- a vote decides for a hash; `told` are the voters whose vote stands for it
 
@@ -161,8 +161,8 @@ IssueKeeps =
     (answered : Bool) → Invariant state
     → CanIssue state push voter hash before answered
     → Invariant
-        (with_replica state voter
-        (issued (state.replica voter) push.lease (Pushing push.begun (Some hash) answered)))
+    (with_replica state voter
+    (issued (state.replica voter) push.lease (Pushing push.begun (Some hash) answered)))
 
 -- ---- a commit is delivered; `answered` says whether its answer is kept
 
@@ -215,7 +215,7 @@ CommitKeeps =
     (state : State) (storage lease begun : ℕ) (hash : Vote) (before answered : Bool)
     (push : ReadyPush) → Invariant state
     → CanCommit (state.replica storage) lease begun hash before push
-        → (before ≡ true → answered ≡ true)
+    → (before ≡ true → answered ≡ true)
     → Invariant (commit_arrived state storage lease begun hash answered push.content)
 
 -- ---- a member confirms: it votes for the decided hash in the committed phase

@@ -28,7 +28,7 @@ abbrev pub FenceBeginKeeps : Type 0
 FenceBeginKeeps = (state : State) (target : ℕ) (left : Option Job) → Invariant state
     → CanFence state target left
     → Invariant
-        (draw_at state target (fence_drawn (state.replica target) (state.shared.last + 1) left))
+    (draw_at state target (fence_drawn (state.replica target) (state.shared.last + 1) left))
 
 -- ---- a fence is delivered: the node's fence is raised to the lease, if it was below, and a push that
 -- is ready is dropped, if the fence was raised
@@ -52,7 +52,7 @@ FenceAnswerKeeps = (state : State) (target lease fence : ℕ) (ready : Option Re
     → Invariant state
     → CanAnswer (state.replica target) lease fence ready
     → Invariant
-        (with_replica state target (fence_answered (state.replica target) lease fence ready))
+    (with_replica state target (fence_answered (state.replica target) lease fence ready))
 
 -- where the node does not hold the repository, or its answer is lost, no answer is kept
 abbrev pub raised_to : Replica → ℕ → Option ReadyPush → Replica

@@ -1,14 +1,15 @@
 -- A ready push may be done.
-use Rattle.std.proofs.Common.{◌≡◌, ℕ, List, [], ◌∷◌, Bool, true, Option, Some, None, refl, sym, ◌∙◌, subst}
+use Rattle.std.proofs.Common.{◌≡◌, ℕ, List, [], ◌∷◌, Bool, true, Option, Some, None, refl, sym, subst, ⊎_elim}
 use Rattle.std.specs.Option.{IfSome}
 use Rattle.node_replica.specs.Effects.{MayBeDone}
 use Rattle.node_calls.specs.ReplicaState.{ReplicaState}
 use Rattle.px_base.specs.Hash.{IsHash}
 use Rattle.px_base.specs.RefList.{IsRefList, References}
 use Rattle.px_base.specs.declared.hash.Hash.{Hash}
+use Rattle.px_base.specs.declared.push.Update.{Update}
 use Rattle.refstore.specs.Updates.{after, creation}
 use Rattle.objstore.specs.Entries.{Entries}
-use Rattle.node_replica.proofs.HashLemmas.{NameHashes-after}
+use Rattle.node_replica.proofs.HashLemmas.{NameHashes-after, given_hash}
 use Rattle.node_replica.specs.Hashes.{NameHashes}
 use Rattle.node_replica.specs.Replica.{AreReady, IsEmptyUnless, IsReady, push_of}
 use Rattle.node_replica.specs.declared.replica.Ready.{Ready}
@@ -19,10 +20,10 @@ may_be_done place None are = tt
 may_be_done place (Some ready) are =
     record { refs = are.list; fits = are.fits; comes = are.comes }
 
--- once it is done, there is none, and the references are those that it left
+-- once it is done, there is none, and the references are those that it leaves
 pub done_ready : (held : Bool) (refs after_ : References) (objects objects' : Entries)
     (fence fence' : ℕ) (was now : Option Ready) (ready : Ready) → held ≡ true → was ≡ Some ready
-    → now ≡ None → after_ ≡ ready.prepared.refs → AreReady refs objects fence was
+    → now ≡ None → after_ ≡ after refs ready.push.updates → AreReady refs objects fence was
     → NameHashes refs
     → AreReady after_ objects' fence' now × IsEmptyUnless held after_ objects' now
     × NameHashes after_
@@ -31,8 +32,9 @@ done_ready held refs after_ objects objects' fence fence' was now ready is_held 
     let one : IsReady refs objects fence ready = subst (AreReady refs objects fence) is are in (
       subst (AreReady after_ objects' fence') (sym none) tt,
       subst (λ (h : Bool). IsEmptyUnless h after_ objects' now) (sym is_held) tt,
-      subst NameHashes (sym (left ∙ one.leaves))
-          (NameHashes-after refs ready.push.updates one.list.ordered names one.ids),
+      subst NameHashes (sym left)
+          (NameHashes-after refs ready.push.updates one.list.ordered names
+          (given_hash ready.push.updates one.ids)),
     )
 
 no_push : (ready : Option Ready) → push_of ready ≡ None → ready ≡ None
@@ -49,5 +51,7 @@ one_more_ref held refs after_ objects fence ready name id none is_held is list n
   subst (AreReady after_ objects fence) (sym (no_push ready none)) tt,
   subst (λ (h : Bool). IsEmptyUnless h after_ objects ready) (sym is_held) tt,
   subst NameHashes (sym is)
-      (NameHashes-after refs (creation name id ∷ []) list.ordered names (hash, tt)),
+      (NameHashes-after refs (creation name id ∷ []) list.ordered names
+      (λ update stands. ⊎_elim (λ same. subst (λ (u : Update). IsHash u.new) same hash)
+      (λ no. absurd no) stands)),
 )

@@ -1,15 +1,15 @@
 -- What a node over a keeper has of one repository, and how its ready push stands.
 use Rattle.std.specs.Prelude.{◌≡◌, ℕ, Bool, true, false, [], Option, None, Some}
 use Rattle.px_base.specs.RefList.{IsRefList, References}
+use Rattle.px_base.specs.Update.{AreUpdates}
 use Rattle.objstore.specs.Bundle.{bundle_fault}
 use Rattle.objstore.specs.Entries.{Entries}
 use Rattle.refstore.specs.Hook.{vote_on}
-use Rattle.refstore.specs.Updates.{Fits, after}
+use Rattle.refstore.specs.Updates.{Fits}
 use Rattle.node_calls.specs.ReplicaState.{ReadyPush}
-use Rattle.node_replica.specs.Hashes.{GiveHashes}
 use Rattle.node_replica.specs.declared.replica.Ready.{Ready}
 
--- the ready push, without the references that it would leave
+-- the ready push, without its vote
 abbrev pub push_of : Option Ready → Option ReadyPush
 push_of None = None
 push_of (Some ready) = Some (record {
@@ -18,15 +18,13 @@ push_of (Some ready) = Some (record {
   objects = ready.push.objects;
 })
 
--- the references are what a repository may have; a ready push has those that it would leave and its
--- vote, its updates may be done and give ids of 20 bytes, its objects may come, and its lease is the
--- fence
+-- the references are what a repository may have; a ready push has its vote, its updates may be done and
+-- are such as their type keeps them, its objects may come, and its lease is the fence
 pub record IsReady (refs : References) (objects : Entries) (fence : ℕ) (ready : Ready) : Type 0 where
-  pub leaves : ready.prepared.refs ≡ after refs ready.push.updates
-  pub vote : ready.prepared.vote ≡ vote_on ready.push.updates
+  pub vote : ready.vote ≡ vote_on ready.push.updates
   pub list : IsRefList refs
   pub fits : Fits ready.push.updates refs
-  pub ids : GiveHashes ready.push.updates
+  pub ids : AreUpdates ready.push.updates
   pub comes : bundle_fault objects 0 ready.push.objects ≡ None
   pub lease : ready.lease ≡ fence
 

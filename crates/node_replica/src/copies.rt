@@ -5,28 +5,27 @@ ghost use Rattle.std.specs.List.{AllByRecursion};
 ghost use Rattle.std.specs.Map.{values_of};
 ghost use Rattle.px_base.specs.Hash.{IsHash};
 ghost use Rattle.node_calls.specs.Calls.{new_tips};
-ghost use Rattle.node_replica.specs.Hashes.{GiveHashes};
+ghost use Rattle.px_base.specs.Update.{AreUpdates};
 
-use px_base::{Ids, Object, ObjectId, Objects, Push, RefName, Update, Updates};
+use px_base::{Ids, Object, ObjectId, Objects, Push, RefName, Update, Updates, are_updates};
 use std::alloc::{AllocError, Global};
 
 /// A copy of the push.
 pub(crate) fn copied_push(alloc: Global, push: &Push) -> Result<Push, AllocError>
     ensures value { IfOk result (λ copied. copied ≡ push.now) }
-    ensures ids { OnOk result (GiveHashes push.now.updates) }
+    ensures ids { OnOk result (AreUpdates push.now.updates) }
 {
+    are_updates(push.updates.as_slice());
     let updates = copied_updates(alloc, push.updates.as_slice())?;
     let objects = copied_objects(alloc, push.objects.as_slice())?;
     Ok(Push { updates, objects })
 }
 
 fn copied_updates(alloc: Global, updates: &[Update]) -> Result<Updates, AllocError>
-    ensures value { IfOk result (λ copied. copied ≡ updates.now) }
-    ensures ids { OnOk result (GiveHashes updates.now) }
+    ensures { IfOk result (λ copied. copied ≡ updates.now) }
 {
     let mut copied = Updates::new(alloc);
     for update in updates {
-        is_hash(&update.new);
         copied.push(Update {
             old: update.old,
             new: update.new,
@@ -66,16 +65,8 @@ pub(crate) fn named_by(alloc: Global, refs: &[(RefName, ObjectId)]) -> Result<Id
 {
     let mut ids = Ids::new(alloc);
     for (_, id) in refs {
-        is_hash(id);
+        let _bytes = id.as_bytes();
         ids.push(*id)?;
     }
     Ok(ids)
-}
-
-// Tells the proof that an id has 20 bytes: it knows so once they are read as a slice.
-fn is_hash(id: &ObjectId)
-    ensures { IsHash id.now }
-{
-    let bytes: &[u8] = &id.0;
-    let _first = bytes[0];
 }

@@ -23,14 +23,14 @@ ghost use Rattle.objstore.specs.Bundle.{bundle_fault, with_object};
 ghost use Rattle.node_replica.specs.Prepared.{IsMissing, IsNotPrepared, IsPrepared, IsReadyAt};
 
 use crate::copies::{copied_push, named_by, tips_of};
-use crate::kept::keep_with;
+use crate::kept::{keep_push, keep_with};
 use crate::refused::{objects_refused, updates_refused};
 use node_calls::{NodeError, NodeRefusal, Snapshot};
 use node_rows::{ReplicaRow, add_objects, add_push, add_refs, begun, remove_objects};
 use objstore::{ClosedFault, Put, PutFault, Store, bundle};
 use px_base::{Hash, Lease, Object, ObjectId, Push, RefList, RefName, RepoPath, Update};
 use px_keeper::{Batch, Keeper, NotTaken};
-use refstore::{Prepared, RefRefusal, Refs};
+use refstore::{RefRefusal, Refs, vote_of};
 use std::alloc::{AllocError, Global};
 use std::marker::Model;
 
@@ -41,8 +41,8 @@ pub struct Ready {
     pub lease: Lease,
     /// The push.
     pub push: Push,
-    /// The references that it would leave, and its vote.
-    pub prepared: Prepared,
+    /// Its vote.
+    pub vote: Hash,
 }
 
 /// What a node has of one repository.
@@ -214,17 +214,13 @@ impl Replica {
             Ok(extra) => extra,
             Err(fault) => return Err(objects_refused(fault)),
         };
-        let prepared = match Prepared::new(alloc, &self.refs, push.updates.as_slice()) {
-            Ok(prepared) => prepared,
-            Err(refusal) => return Err(updates_refused(refusal)),
-        };
+        if let Err(refusal) = self.refs.check(alloc, push.updates.as_slice()) {
+            return Err(updates_refused(refusal));
+        }
         self.has_new(alloc, push.updates.as_slice(), &extra)?;
+        let vote = vote_of(push.updates.as_slice());
         let push = copied_push(alloc, push)?;
-        Ok(Ready {
-            lease,
-            push,
-            prepared,
-        })
+        Ok(Ready { lease, push, vote })
     }
 
     // Whether all that is reachable from the tips is here or among these objects.
@@ -313,7 +309,7 @@ impl Replica {
         self.admits(lease)?;
         self.is_held()?;
         let have = match &self.ready {
-            Some(ready) if ready.lease == lease => ready.prepared.vote(),
+            Some(ready) if ready.lease == lease => ready.vote,
             _ => return Err(NodeError::Refused(NodeRefusal::NotPrepared)),
         };
         if have != *hash {
@@ -345,13 +341,13 @@ impl Replica {
             // A push is ready, as the caller knows.
             return Err(NodeError::Memory);
         };
-        let objects = ready.push.objects.as_slice();
-        if let Err(error) = keep_with(alloc, keeper, batch, &mut self.objects, objects) {
+        let refs = &mut self.refs;
+        let objects = &mut self.objects;
+        if let Err(error) = keep_push(alloc, keeper, batch, refs, objects, &ready.push) {
             self.ready = Some(ready);
             return Err(error);
         }
-        let vote = ready.prepared.vote();
-        ready.prepared.commit(&mut self.refs);
+        let vote = ready.vote;
         self.last = Some(lease);
         self.fence = lease.number() + 1;
         Ok(vote)

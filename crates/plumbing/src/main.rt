@@ -8,6 +8,8 @@
 //! - `create N TURNS` and `change N TURNS` prepare N creations on no references, or one update
 //!   on N references, TURNS times;
 //! - `push N TURNS` makes N repositories at a node in memory, and TURNS pushes into them;
+//! - `grow N TURNS` makes a repository with N references at a node in memory, and TURNS pushes of one
+//!   more into it;
 //! - `open N TURNS` opens a node over what a node with N repositories and ten pushes each has kept,
 //!   TURNS times;
 //! - `rows` reads maps of rows, opens a node over each, and says what that comes to.
@@ -93,6 +95,7 @@ fn measure<O: Sink>(
         "create" => references::create(alloc, count, turns, out),
         "change" => references::change(alloc, count, turns, out),
         "push" => pushes::push(alloc, count, turns, out),
+        "grow" => pushes::grow(alloc, count, turns, out),
         "open" => pushes::open(alloc, count, turns, out),
         _ => Err(End::Usage),
     }

@@ -1,7 +1,8 @@
 //! `push N TURNS`: makes N repositories at a node in memory, and then as many pushes as TURNS says,
-//! each of one new reference and one blob, into one repository after the other. `open N TURNS`: does
-//! so with ten pushes for each repository, and then opens a node over what the keeper has, as many
-//! times as TURNS says. Each prints how many repositories the last node holds.
+//! each of one new reference and one blob, into one repository after the other. `grow N TURNS`: makes
+//! one repository with N references, by one push, and then as many such pushes into it as TURNS says.
+//! `open N TURNS`: does so with ten pushes for each repository, and then opens a node over what the
+//! keeper has, as many times as TURNS says. Each prints how many repositories the last node holds.
 
 use crate::end::{End, number, print};
 use crate::references::name_of;
@@ -48,13 +49,18 @@ fn paths(alloc: Global, count: u32) -> Result<Vec<RepoPath>, End> {
 }
 
 // A creation of a reference that names a blob of this content.
+fn creation(alloc: Global, name: &str, content: &str) -> Result<Update, End> {
+    Ok(Update {
+        old: Hash::zero(),
+        new: objstore::name_of(Kind::Blob, content.as_bytes()),
+        name: name_of(alloc, name.as_bytes())?,
+    })
+}
+
+// A creation of a reference that names the blob of its own name.
 fn updates(alloc: Global, name: &str) -> Result<Updates, End> {
     let mut updates = Updates::new(alloc);
-    updates.push(Update {
-        old: Hash::zero(),
-        new: objstore::name_of(Kind::Blob, name.as_bytes()),
-        name: name_of(alloc, name.as_bytes())?,
-    })?;
+    updates.push(creation(alloc, name, name)?)?;
     Ok(updates)
 }
 
@@ -74,14 +80,35 @@ fn push_of(alloc: Global, number: u32) -> Result<Push, End> {
     Ok(Push { updates, objects })
 }
 
-// Prepares a push under a lease of its own, and commits it by the verdict of its one vote.
-fn push_one<N: Node>(alloc: Global, node: &mut N, path: &RepoPath, number: u32) -> Result<(), End> {
-    let lease = lease(u64::from(number) + 2)?;
-    let push = push_of(alloc, number)?;
-    let vote = done(node.prepare(alloc, path, lease, &push))?;
+// A push of so many new references, which name one blob.
+fn first_push(alloc: Global, count: u32) -> Result<Push, End> {
+    let mut updates = Updates::new(alloc);
+    for number in 0..count {
+        let name = format!(in alloc; "refs/tags/first-{number:08}")?;
+        updates.push(creation(alloc, name.as_str(), "first")?)?;
+    }
+    let objects = objects(alloc, "first")?;
+    Ok(Push { updates, objects })
+}
+
+// Prepares a push, and commits it by the verdict of its one vote.
+fn send<N: Node>(
+    alloc: Global,
+    node: &mut N,
+    path: &RepoPath,
+    lease: Lease,
+    push: &Push,
+) -> Result<(), End> {
+    let vote = done(node.prepare(alloc, path, lease, push))?;
     let verdict = Verdict::of(vote, 1, 1, 1).ok_or(End::BadInput)?;
     done(node.commit(alloc, path, lease, &verdict))?;
     Ok(())
+}
+
+// Makes the push of a number, under a lease of its own.
+fn push_one<N: Node>(alloc: Global, node: &mut N, path: &RepoPath, number: u32) -> Result<(), End> {
+    let push = push_of(alloc, number)?;
+    send(alloc, node, path, lease(u64::from(number) + 3)?, &push)
 }
 
 // Makes so many pushes, into one repository after the other.
@@ -124,6 +151,22 @@ fn tell<N: Node, O: Sink>(alloc: Global, node: &mut N, out: &mut O) -> Result<()
 /// Makes so many repositories and so many pushes.
 pub fn push<O: Sink>(alloc: Global, count: &str, turns: &str, out: &mut O) -> Result<(), End> {
     let mut node = pushed(alloc, number(count)?, number(turns)?)?;
+    tell(alloc, &mut node, out)
+}
+
+/// Makes a repository with so many references, and so many pushes into it.
+pub fn grow<O: Sink>(alloc: Global, count: &str, turns: &str, out: &mut O) -> Result<(), End> {
+    let mut node = pushed(alloc, 1, 0)?;
+    let paths = paths(alloc, 1)?;
+    let push = first_push(alloc, number(count)?)?;
+    send(
+        alloc,
+        &mut node,
+        paths.first().ok_or(End::Usage)?,
+        lease(2)?,
+        &push,
+    )?;
+    push_all(alloc, &mut node, &paths, number(turns)?)?;
     tell(alloc, &mut node, out)
 }
 

@@ -6,6 +6,6 @@ mod DeliveryRows
 mod OneCall
 mod OneRun
 mod Refusing
-mod LaterBooks
-mod Growing
+pub mod LaterBooks
+pub mod Growing
 mod GrowingRuns

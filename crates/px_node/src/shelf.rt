@@ -169,7 +169,7 @@ impl<K: Keeper + Drop> Node for Shelf<K> {
             Err(error) => return Err(error),
         };
         keep_rows(alloc, &mut self.replicas, &mut self.keeper, &batch, repo)?;
-        let vote = ready.prepared.vote();
+        let vote = ready.vote;
         replicas::prepare(&mut self.replicas, repo, ready);
         Ok(vote)
     }

@@ -6,7 +6,6 @@ use Rattle.std.specs.Option.{option_map}
 use Rattle.px_ops.specs.declared.op.Op.{Op}
 use Rattle.px_script.specs.LineReading.{event_of, IsOpening}
 use Rattle.px_script.specs.VoteReading.{vote_of}
-use Rattle.px_script.specs.VoteSpelling.{IsLawfulVote, vote_words}
 use Rattle.px_script.specs.Words.{line_words}
 use Rattle.px_script.specs.Spelling.{Asks, IsLawfulEvent, IsSilent, MayListVoters, Spells, words_of}
 use Rattle.px_script.specs.declared.event.Event.{Event}

@@ -228,7 +228,7 @@ fn an_armed_keeper_fails_at_its_next_commit_alone(rt: HostRuntime) -> Result<(),
 // The fault comes at the first effect, which is then as if it had not been asked for.
 const OVER_ARMED: &str = "\
     list ->
-    fence x.git 0 -> last -
+    fence x.git 0 -> no repo
     create x.git 1 -> fault
     list ->
     create x.git 1 -> ok

@@ -2,8 +2,8 @@
 
 use crate::calls::{Answers, play};
 use px_base::{
-    Bytes, FailingCalls, LineEnd, MemSink, MemSource, Piece, ReadEnd, Sink, Source, line, read_piece,
-    write_all,
+    Bytes, FailingCalls, LineEnd, MemSink, MemSource, Piece, ReadEnd, Sink, Source, line,
+    read_piece, write_all,
 };
 use std::alloc::Global;
 use std::test::Fail;

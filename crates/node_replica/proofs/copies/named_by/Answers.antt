@@ -21,5 +21,5 @@ loop-id-preserved c =
           (sym (drop-next c.args.refs.now c.loop-id.id-index ref (omega arith) c.loop-id-item.is))
           ∙ c.loop-id.invariant.all;
       ids = subst (AllByRecursion IsHash) (sym c.in_ok-push.ensures.ok)
-          (all_append IsHash ids (ref.1 ∷ []) c.loop-id.invariant.ids (c.is_hash.ensures, tt));
+          (all_append IsHash ids (ref.1 ∷ []) c.loop-id.invariant.ids (c.as_bytes-bytes.ensures.hash, tt));
     }

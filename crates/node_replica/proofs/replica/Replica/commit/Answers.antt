@@ -7,7 +7,7 @@ use Rattle.node_replica.proofs.replica.Replica.commit.Goals as goal
 pub invariant_of-self-2 : goal.invariant_of-self-2
 invariant_of-self-2 g c =
     let inside = c.self.inside in
-    done_ready inside.held inside.refs c.commit.new.refs inside.objects c.keep_with.new.store
+    done_ready inside.held inside.refs c.keep_push.new.refs inside.objects c.keep_push.new.store
     inside.fence (c.number.result + 1) inside.ready c.take.new.self c.in-Some.ready
     (ap (λ (p : ReplicaState). p.held) c.self.view_is ∙ c.requires.held) (sym c.in-Some.ensures.value)
-    c.in-Some.ensures.after c.commit.ensures c.self.invariant.0 c.self.invariant.2
+    c.in-Some.ensures.after c.in_default-keep_push.ensures.ok c.self.invariant.0 c.self.invariant.2

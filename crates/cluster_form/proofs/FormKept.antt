@@ -1,0 +1,56 @@
+-- Each move keeps the form of the data, and so it is there after every list of moves.
+use Rattle.std.proofs.Common.{◌≡◌, None}
+use Rattle.px_ops.specs.declared.op.Op.{Op}
+use Rattle.px_cluster.specs.Core.{Core, empty, restarted}
+use Rattle.px_cluster.specs.Ops.{left_by, refusal_of}
+use Rattle.cluster_form.specs.Always.{HoldsAlways, IsKept}
+use Rattle.cluster_form.specs.Jobs.{AreInOrder}
+use Rattle.cluster_form.specs.Form.{HasForm, IsFormed}
+use Rattle.cluster_form.proofs.BooksKept.{books_again, books_left, no_books}
+use Rattle.cluster_form.proofs.Induction.{always, core_kept}
+use Rattle.cluster_form.proofs.JobsHome.{homes_again, homes_left}
+use Rattle.cluster_form.proofs.JobsKept.{jobs_again, jobs_left, no_jobs}
+use Rattle.cluster_form.proofs.TurnsKept.{no_turns, turns_again, turns_left}
+use Rattle.cluster_form.proofs.WithinBooks.{books_within}
+use Rattle.cluster_form.proofs.WithinRows.{rows_within}
+use Rattle.cluster_form.specs.Within.{AreWithin}
+
+within_left : (core : Core) (asked : Op) → AreInOrder core.jobs → AreWithin core
+    → AreWithin (left_by core asked)
+within_left core asked order within =
+    let rows = rows_within core asked order (within.jobs, within.pushes) in
+    record { books = books_within core asked within; jobs = rows.0; pushes = rows.1 }
+
+left : (core : Core) (asked : Op) → refusal_of core asked ≡ None → IsFormed core
+    → IsFormed (left_by core asked)
+left core asked none form = record {
+  books = books_left core asked none form.books;
+  jobs = jobs_left core asked form.books.dense form.jobs;
+  turns = turns_left core asked none form.books.dense form.turns;
+  within = within_left core asked form.jobs.order form.within;
+  homes = homes_left core asked form.books.dense form.homes;
+}
+
+again : (core : Core) → IsFormed core → IsFormed (restarted core)
+again core form = record {
+  books = books_again core form.books;
+  jobs = jobs_again core form.jobs;
+  turns = turns_again core form.turns;
+  within = record { books = form.within.books; jobs = form.within.jobs; pushes = tt };
+  homes = homes_again core form.homes;
+}
+
+at_first : IsFormed empty
+at_first = record {
+  books = no_books;
+  jobs = no_jobs;
+  turns = no_turns;
+  within = record { books = tt; jobs = tt; pushes = tt };
+  homes = tt;
+}
+
+pub form_kept : IsKept HasForm
+form_kept = core_kept IsFormed left again
+
+pub form_always : HoldsAlways HasForm
+form_always = always HasForm form_kept (λ node. at_first)

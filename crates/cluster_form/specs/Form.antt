@@ -1,0 +1,20 @@
+-- The form of the data of a cluster.
+use Rattle.px_cluster.specs.Cluster.{Cluster}
+use Rattle.px_cluster.specs.Core.{Core}
+use Rattle.cluster_form.specs.Books.{AreBooks}
+use Rattle.cluster_form.specs.Homes.{AreJobsHome}
+use Rattle.cluster_form.specs.Jobs.{AreJobs}
+use Rattle.cluster_form.specs.Turns.{AreTurns}
+use Rattle.cluster_form.specs.Within.{AreWithin}
+
+-- the book, the queue, and transactions and turns are as they should be, and their numbers are within
+-- what was given; each job is for a replica of its repository
+pub record IsFormed (core : Core) : Type 0 where
+  pub books : AreBooks core
+  pub jobs : AreJobs core
+  pub turns : AreTurns core
+  pub within : AreWithin core
+  pub homes : AreJobsHome core
+
+abbrev pub HasForm : Cluster → Type 0
+HasForm cluster = IsFormed cluster.core

@@ -1,0 +1,7 @@
+pub mod Always
+pub mod Books
+pub mod Jobs
+pub mod Turns
+pub mod Within
+pub mod Homes
+pub mod Form

@@ -1,13 +1,19 @@
 -- Each move keeps the form of the data, and so it is there after every list of moves.
 use Rattle.std.proofs.Common.{◌≡◌, None}
 use Rattle.px_ops.specs.declared.op.Op.{Op}
+use Rattle.px_cluster.specs.Cluster.{Cluster}
 use Rattle.px_cluster.specs.Core.{Core, empty, restarted}
 use Rattle.px_cluster.specs.Ops.{left_by, refusal_of}
 use Rattle.cluster_form.specs.Always.{HoldsAlways, IsKept}
 use Rattle.cluster_form.specs.Jobs.{AreInOrder}
+use Rattle.cluster_form.specs.Drawn.{AreUsesDrawn}
+use Rattle.px_cluster.specs.Ledger.{Ledger}
 use Rattle.cluster_form.specs.Form.{HasForm, IsFormed}
 use Rattle.cluster_form.proofs.BooksKept.{books_again, books_left, no_books}
-use Rattle.cluster_form.proofs.Induction.{always, core_kept}
+use Rattle.cluster_form.proofs.Induction.{always, first_none}
+use Rattle.cluster_form.proofs.LedgerKept.{no_uses, uses_again, uses_left}
+use Rattle.cluster_form.proofs.LedgerUses.{same_uses}
+use Rattle.cluster_form.proofs.Uses.{uses_kept}
 use Rattle.cluster_form.proofs.JobsHome.{homes_again, homes_left}
 use Rattle.cluster_form.proofs.JobsKept.{jobs_again, jobs_left, no_jobs}
 use Rattle.cluster_form.proofs.TurnsKept.{no_turns, turns_again, turns_left}
@@ -49,8 +55,24 @@ at_first = record {
   homes = tt;
 }
 
+-- ---- the core and the ledger together
+
+abbrev Both : Core → Ledger → Type 0
+Both core ledger = IsFormed core × AreUsesDrawn core ledger
+
+both_kept : IsKept (λ (c : Cluster). Both c.core c.ledger)
+both_kept = uses_kept Both
+    (λ core old new same both. (both.0, same_uses core old new same both.1))
+    (λ old asked none both. (
+      left old.core asked (first_none (refusal_of old.core asked) _ none) both.0,
+      uses_left old asked none both.0 both.1,
+    )) (λ core ledger both. (again core both.0, uses_again core ledger both.1))
+
 pub form_kept : IsKept HasForm
-form_kept = core_kept IsFormed left again
+form_kept old new move form is =
+    let both = both_kept old new move (form.core, form.uses) is in
+    record { core = both.0; uses = both.1 }
 
 pub form_always : HoldsAlways HasForm
-form_always = always HasForm form_kept (λ node. at_first)
+form_always =
+    always HasForm form_kept (λ node. record { core = at_first; uses = no_uses empty })

@@ -22,7 +22,7 @@ StillThere old new = (virt : List ℕ) (storage : ℕ)
     → is_one_of storage (storages_of old virt) ≡ true
     → is_one_of storage (storages_of new virt) ≡ true
 
-one_of_more : (storage : ℕ) (ns more : List ℕ) → is_one_of storage ns ≡ true
+pub one_of_more : (storage : ℕ) (ns more : List ℕ) → is_one_of storage ns ≡ true
     → is_one_of storage (ns ++ more) ≡ true
 one_of_more storage [] more is = absurd (let z : false ≡ true = is in cc)
 one_of_more storage (n ∷ ns) more is = by (n == storage) is (one_of_more storage ns more)
@@ -58,7 +58,7 @@ by_plain : (core : Core) (asked : Op) → IsPlain asked
     → StillThere core.storages (left_by core asked).storages
 by_plain core asked is = same_storages core (left_by core asked) (left_alike core asked is).1
 
-still_left : (core : Core) (asked : Op) → StillThere core.storages (left_by core asked).storages
+pub still_left : (core : Core) (asked : Op) → StillThere core.storages (left_by core asked).storages
 still_left core (op.Admit virt name) =
     still_admitted core.storages (record { virt = virt; name = name })
 still_left core (op.Create virt path factor) = same_storages core (left_by core (op.Create virt path factor))
@@ -99,7 +99,7 @@ pub home_left : (core : Core) (asked : Op) (repo storage : ℕ) → IsHome core 
     → IsHome (left_by core asked) repo storage
 home_left core asked repo storage is =
     let later = later_there core.repositories (left_by core asked).repositories
-        (left core asked).0 repo is.book is.there in
+    (left core asked).0 repo is.book is.there in
     record {
       book = later.0;
       there = later.1;

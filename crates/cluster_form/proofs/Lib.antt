@@ -1,6 +1,7 @@
 mod Lists
 mod OneOf
 mod Places
+mod Uses
 mod Induction
 mod AlikeBooks
 mod ApartPaths
@@ -22,4 +23,6 @@ mod WithinLists
 mod WithinRows
 mod Homes
 mod JobsHome
+mod LedgerUses
+mod LedgerKept
 mod FormKept

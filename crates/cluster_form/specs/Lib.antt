@@ -4,4 +4,5 @@ pub mod Jobs
 pub mod Turns
 pub mod Within
 pub mod Homes
+pub mod Drawn
 pub mod Form

@@ -6,13 +6,14 @@ use Rattle.px_cluster.specs.Core.{Core, empty, restarted}
 use Rattle.px_cluster.specs.Ops.{left_by, refusal_of}
 use Rattle.cluster_form.specs.Always.{HoldsAlways, IsKept}
 use Rattle.cluster_form.specs.Jobs.{AreInOrder}
-use Rattle.cluster_form.specs.Drawn.{AreUsesDrawn}
+use Rattle.cluster_form.specs.Drawn.{AreOfMembers, AreUsesDrawn}
 use Rattle.px_cluster.specs.Ledger.{Ledger}
 use Rattle.cluster_form.specs.Form.{HasForm, IsFormed}
 use Rattle.cluster_form.proofs.BooksKept.{books_again, books_left, no_books}
 use Rattle.cluster_form.proofs.Induction.{always, first_none}
 use Rattle.cluster_form.proofs.LedgerKept.{no_uses, uses_again, uses_left}
 use Rattle.cluster_form.proofs.LedgerUses.{same_uses}
+use Rattle.cluster_form.proofs.MembersKept.{members_left, same_members}
 use Rattle.cluster_form.proofs.Uses.{uses_kept}
 use Rattle.cluster_form.proofs.JobsHome.{homes_again, homes_left}
 use Rattle.cluster_form.proofs.JobsKept.{jobs_again, jobs_left, no_jobs}
@@ -57,22 +58,27 @@ at_first = record {
 
 -- ---- the core and the ledger together
 
-abbrev Both : Core → Ledger → Type 0
-Both core ledger = IsFormed core × AreUsesDrawn core ledger
+abbrev All : Core → Ledger → Type 0
+All core ledger = IsFormed core × AreUsesDrawn core ledger × AreOfMembers core ledger
 
-both_kept : IsKept (λ (c : Cluster). Both c.core c.ledger)
-both_kept = uses_kept Both
-    (λ core old new same both. (both.0, same_uses core old new same both.1))
-    (λ old asked none both. (
-      left old.core asked (first_none (refusal_of old.core asked) _ none) both.0,
-      uses_left old asked none both.0 both.1,
-    )) (λ core ledger both. (again core both.0, uses_again core ledger both.1))
+all_kept : IsKept (λ (c : Cluster). All c.core c.ledger)
+all_kept = uses_kept All
+    (λ core old new same all. (
+      all.0,
+      same_uses core old new same all.1,
+      same_members core.pushes old new same all.2,
+    ))
+    (λ old asked none all. (
+      left old.core asked (first_none (refusal_of old.core asked) _ none) all.0,
+      uses_left old asked none all.0 all.1,
+      members_left old asked all.0 all.1 all.2,
+    )) (λ core ledger all. (again core all.0, uses_again core ledger all.1, tt))
 
 pub form_kept : IsKept HasForm
 form_kept old new move form is =
-    let both = both_kept old new move (form.core, form.uses) is in
-    record { core = both.0; uses = both.1 }
+    let all = all_kept old new move (form.core, form.uses, form.members) is in
+    record { core = all.0; uses = all.1; members = all.2 }
 
 pub form_always : HoldsAlways HasForm
-form_always =
-    always HasForm form_kept (λ node. record { core = at_first; uses = no_uses empty })
+form_always = always HasForm form_kept
+    (λ node. record { core = at_first; uses = no_uses empty; members = tt })

@@ -1,5 +1,5 @@
 -- What is at home stays so at each operation, and at a restart.
-use Rattle.std.proofs.Common.{◌≡◌, ◌+◌, ◌==◌, ◌||◌, ℕ, List, [], ◌∷◌, ◌++◌, Bool, true, false, if◌then◌else◌, Option, None, Some, refl, sym, ◌∙◌, ap, subst, length}
+use Rattle.std.proofs.Common.{◌≡◌, ◌==◌, ◌||◌, ℕ, List, [], ◌∷◌, ◌++◌, Bool, true, false, Option, None, Some, refl, ◌∙◌, ap}
 use Rattle.px_ops.specs.declared.op.Op.{Op}
 use Rattle.px_ops.specs.declared.op.Op.TheVariants as op
 use Rattle.px_cluster.proofs.Growing.{left}
@@ -11,7 +11,6 @@ use Rattle.px_cluster.specs.Numbers.{is_one_of}
 use Rattle.px_cluster.specs.Ops.{left_by}
 use Rattle.cluster_form.specs.Homes.{IsHome}
 use Rattle.cluster_form.proofs.AlikeBooks.{IsPlain, left_alike}
-use Rattle.cluster_form.proofs.OneOf.{or_later}
 use Rattle.cluster_form.proofs.Places.{places_more}
 use Rattle.cluster_form.proofs.WithinLists.{later_there}
 

@@ -1,7 +1,6 @@
 -- The ledger names only leases that were drawn, after each operation.
-use Rattle.std.proofs.Common.{◌≡◌, ◌≤◌, ◌+◌, ◌==◌, ◌&&◌, ◌||◌, ◌⊎◌, ℕ, zero, suc, not, List, [], ◌∷◌, ◌++◌, Bool, true, false, if◌then◌else◌, is_some, Option, None, Some, refl, sym, ◌∙◌, ap, subst, inl, inr, filter, find, length, map, set, slice_get, take, unwrap_or, arith}
+use Rattle.std.proofs.Common.{◌≡◌, ◌+◌, ◌==◌, ◌&&◌, ℕ, not, List, [], ◌∷◌, Bool, true, false, is_some, Option, None, Some, refl, sym, ◌∙◌, subst, inl, inr, find, map, arith}
 use Rattle.std.specs.List.{AllByRecursion}
-use Rattle.std.specs.Str.{bytes_eq}
 use Rattle.px_base.specs.declared.hash.Hash.{Hash}
 use Rattle.px_ops.specs.declared.job.Job.{Job}
 use Rattle.px_ops.specs.declared.job.JobKind.{JobKind}
@@ -10,38 +9,35 @@ use Rattle.px_ops.specs.declared.op.Op.{Op}
 use Rattle.px_ops.specs.declared.op.Op.TheVariants as op
 use Rattle.px_ops.specs.declared.refusal.Refusal.{Refusal}
 use Rattle.txmanager.specs.Voting.{Voting, collect_answer}
-use Rattle.px_cluster.proofs.Growing.{left}
 use Rattle.px_cluster.specs.Acknowledged.{event_refusal}
 use Rattle.px_cluster.specs.Book.{Replica, Repository, has_replica_on, is_on, storages_of, with_lease_for}
 use Rattle.px_cluster.specs.Casts.{member_named}
 use Rattle.px_cluster.specs.Cluster.{Cluster}
-use Rattle.px_cluster.specs.Core.{Core, OpenPush, push_of, repository, restarted, turn_of, voting, with_repository_by}
-use Rattle.px_cluster.specs.Creating.{assigned_for, before_create, create_refusal, created_on, factor_for, found, is_at_path, number_for, unknown_storage, unmade, with_created}
-use Rattle.px_cluster.specs.Issues.{issues, issues_begin, issues_commit, issues_commit_at, issues_creates, issues_fence, issues_taking, issues_work, issues_work_in, purpose_of, told_hash}
-use Rattle.px_cluster.specs.Ledger.{Creation, Deleting, Fencing, Ledger, Purpose, Pushing, Unused, Updating, unused, with_commit, with_purposes}
+use Rattle.px_cluster.specs.Core.{Core, OpenPush, push_of, repository, restarted, voting, with_repository_by}
+use Rattle.px_cluster.specs.Creating.{assigned_for, before_create, number_for, unknown_storage}
+use Rattle.px_cluster.specs.Issues.{issues, issues_begin, issues_commit, issues_commit_at, issues_fence, issues_taking, issues_work, issues_work_in, purpose_of, told_hash}
+use Rattle.px_cluster.specs.Ledger.{Creation, Deleting, Fencing, Ledger, Purpose, Pushing, Unused, Updating, unused, with_commit}
 use Rattle.px_cluster.specs.Members.{members}
 use Rattle.px_cluster.specs.Numbers.{is_one_of}
 use Rattle.px_cluster.specs.Ops.{left_by, refusal_of}
 use Rattle.px_cluster.specs.Pushes.{beginning, begun_at, drawn_for_members}
 use Rattle.px_cluster.specs.Jobs.{without_running}
 use Rattle.px_cluster.specs.Repairs.{accept_begin_refusal, settle_begin_refusal}
-use Rattle.px_cluster.specs.Refusals.{cause, first_cause}
+use Rattle.px_cluster.specs.Refusals.{first_cause}
 use Rattle.px_cluster.specs.Taking.{Drop, Next, PassOver, Take, Taking, book_as_taken, dequeued, dequeued_by, next_job, taken_in}
 use Rattle.cluster_form.specs.Books.{IsDense, storages_in}
 use Rattle.cluster_form.specs.Drawn.{AreUsesDrawn, IsDrawn, is_used}
 use Rattle.cluster_form.specs.Form.{IsFormed}
 use Rattle.cluster_form.specs.Homes.{IsHome}
 use Rattle.cluster_form.proofs.Among.{among_has, next_is}
-use Rattle.cluster_form.proofs.Homes.{still_left}
 use Rattle.cluster_form.proofs.Induction.{first_none}
-use Rattle.cluster_form.proofs.Lists.{all_got, bool, both_left, both_right, bytes_same, choose, same_number, some_is}
-use Rattle.cluster_form.proofs.OneOf.{one_has, or_later}
+use Rattle.cluster_form.proofs.Lists.{all_got, bool, choose, same_number, some_is}
+use Rattle.cluster_form.proofs.OneOf.{one_has}
 use Rattle.cluster_form.proofs.Panels.{all_members}
 use Rattle.cluster_form.proofs.PlannedJobs.{all_one}
-use Rattle.cluster_form.proofs.Places.{got_beyond, got_last, place_found}
 use Rattle.cluster_form.proofs.TurnsKept.{first_holds, not_caused}
 use Rattle.cluster_form.proofs.Uses.{SameUses}
-use Rattle.cluster_form.proofs.WithinLists.{got_set, later_there}
+use Rattle.cluster_form.proofs.WithinLists.{got_set}
 use Rattle.cluster_form.proofs.LedgerUses.{all_left, created_drawn, new_drawn, same_uses}
 
 -- ---- Begin
@@ -87,7 +83,7 @@ commit_same_at c push (Some storage) (Some hash) r s l =
     ((r == push.repo) && (s == storage) && (l == push.lease)) (with_commit hash (c.ledger r s l))
     (c.ledger r s l) (λ holds. commit_use hash (c.ledger r s l)) (λ fails. refl)
 
-commit_same : (c : Cluster) (name : List ℕ) (sub : ℕ) (push : Option OpenPush)
+pub commit_same : (c : Cluster) (name : List ℕ) (sub : ℕ) (push : Option OpenPush)
     (vote : Option Voting) → SameUses c.ledger (issues_commit c name sub push vote).ledger
 commit_same c name sub None vote r s l = refl
 commit_same c name sub (Some push) None r s l = refl

@@ -1,39 +1,18 @@
 -- The ledger names only leases that were drawn, where leases are given a purpose.
-use Rattle.std.proofs.Common.{◌≡◌, ◌≤◌, ◌+◌, ◌==◌, ◌&&◌, ◌||◌, ◌⊎◌, ℕ, zero, suc, not, List, [], ◌∷◌, ◌++◌, Bool, true, false, if◌then◌else◌, is_some, Option, None, Some, refl, sym, ◌∙◌, ap, subst, inl, inr, filter, find, length, map, set, slice_get, take, unwrap_or, arith}
-use Rattle.std.specs.List.{AllByRecursion}
+use Rattle.std.proofs.Common.{◌≡◌, ◌+◌, ◌==◌, ◌&&◌, ◌||◌, ◌⊎◌, ℕ, zero, suc, List, [], ◌∷◌, Bool, true, false, Option, None, Some, refl, sym, ◌∙◌, ap, subst, inl, inr, length, slice_get, take, unwrap_or, arith}
 use Rattle.std.specs.Str.{bytes_eq}
-use Rattle.px_base.specs.declared.hash.Hash.{Hash}
-use Rattle.px_ops.specs.declared.job.Job.{Job}
 use Rattle.px_ops.specs.declared.op.Op.{Op}
 use Rattle.px_ops.specs.declared.op.Op.TheVariants as op
-use Rattle.px_ops.specs.declared.refusal.Refusal.{Refusal}
-use Rattle.txmanager.specs.Voting.{Voting, collect_answer}
 use Rattle.px_cluster.proofs.Growing.{left}
-use Rattle.px_cluster.specs.Acknowledged.{event_refusal}
-use Rattle.px_cluster.specs.Book.{Replica, Repository, has_replica_on, is_on, storages_of}
-use Rattle.px_cluster.specs.Casts.{member_named}
-use Rattle.px_cluster.specs.Cluster.{Cluster}
-use Rattle.px_cluster.specs.Core.{Core, OpenPush, push_of, repository, restarted, turn_of, voting, with_repository_by}
-use Rattle.px_cluster.specs.Creating.{assigned_for, before_create, create_refusal, created_on, factor_for, found, is_at_path, number_for, unknown_storage, unmade, with_created}
-use Rattle.px_cluster.specs.Issues.{issues, issues_begin, issues_commit, issues_commit_at, issues_creates, issues_fence, issues_taking, issues_work, issues_work_in, told_hash}
-use Rattle.px_cluster.specs.Ledger.{Creation, Deleting, Fencing, Ledger, Purpose, Pushing, Unused, Updating, with_commit, with_purposes}
-use Rattle.px_cluster.specs.Members.{members}
+use Rattle.px_cluster.specs.Book.{Repository, storages_of}
+use Rattle.px_cluster.specs.Core.{Core, repository}
+use Rattle.px_cluster.specs.Creating.{assigned_for, before_create, created_on, factor_for, found, is_at_path, number_for, unmade, with_created}
+use Rattle.px_cluster.specs.Ledger.{Ledger, Purpose, with_purposes}
 use Rattle.px_cluster.specs.Numbers.{is_one_of}
-use Rattle.px_cluster.specs.Ops.{left_by, refusal_of}
-use Rattle.px_cluster.specs.Pushes.{beginning}
-use Rattle.px_cluster.specs.Refusals.{cause, first_cause}
-use Rattle.px_cluster.specs.Taking.{Drop, Next, PassOver, Take, Taking, book_as_taken, next_job}
-use Rattle.cluster_form.specs.Books.{IsDense, storages_in}
+use Rattle.px_cluster.specs.Ops.{left_by}
 use Rattle.cluster_form.specs.Drawn.{AreUsesDrawn, IsDrawn, is_used}
-use Rattle.cluster_form.specs.Form.{IsFormed}
-use Rattle.cluster_form.specs.Homes.{IsHome}
-use Rattle.cluster_form.proofs.Among.{among_has, next_is}
 use Rattle.cluster_form.proofs.Homes.{still_left}
-use Rattle.cluster_form.proofs.Induction.{first_none}
-use Rattle.cluster_form.proofs.Lists.{all_got, bool, both_left, both_right, bytes_same, choose, same_number, some_is}
-use Rattle.cluster_form.proofs.OneOf.{one_has, or_later}
-use Rattle.cluster_form.proofs.Panels.{all_members}
-use Rattle.cluster_form.proofs.PlannedJobs.{all_one}
+use Rattle.cluster_form.proofs.Lists.{bool, both_left, both_right, bytes_same, same_number}
 use Rattle.cluster_form.proofs.Places.{got_beyond, got_last, place_found}
 use Rattle.cluster_form.proofs.Uses.{SameUses}
 use Rattle.cluster_form.proofs.WithinLists.{got_set, later_there}
@@ -63,7 +42,7 @@ all_left core asked ledger are repo storage lease used =
 -- ---- leases with another purpose
 
 -- a lease that is used now was used before, or it is one of those that were given a purpose
-used_before : (ledger : Ledger) (repo : ℕ) (test : ℕ → Bool) (lease : ℕ)
+pub used_before : (ledger : Ledger) (repo : ℕ) (test : ℕ → Bool) (lease : ℕ)
     (change : ℕ → Purpose → Purpose) (r s l : ℕ)
     → is_used (with_purposes ledger repo test lease change r s l) ≡ true
     → (is_used (ledger r s l) ≡ true) ⊎ ((r ≡ repo) × (test s ≡ true) × (l ≡ lease))

@@ -25,4 +25,6 @@ mod Homes
 mod JobsHome
 mod LedgerUses
 mod LedgerKept
+mod PushLists
+mod MembersKept
 mod FormKept

@@ -1,12 +1,12 @@
 -- Which leases are used changes at operations alone: a delivery keeps an answer of what is used.
-use Rattle.std.proofs.Common.{◌≡◌, ◌==◌, ◌&&◌, ℕ, Bool, true, false, if◌then◌else◌, Option, None, Some, refl, sym, ◌∙◌, ap, subst, inl, inr}
+use Rattle.std.proofs.Common.{◌≡◌, ◌==◌, ◌&&◌, ℕ, Option, None, Some, refl, sym, ◌∙◌, subst, inl, inr}
 use Rattle.node_calls.specs.ReplicaState.{ReplicaState}
 use Rattle.node_calls.specs.declared.snapshot.Snapshot.{Snapshot}
 use Rattle.px_ops.specs.declared.node_refusal.NodeRefusal.{NodeRefusal}
 use Rattle.px_ops.specs.declared.op.Op.{Op}
 use Rattle.px_ops.specs.declared.refusal.Refusal.{Refusal}
 use Rattle.px_cluster.specs.Acknowledged.{done_in, event_refusal}
-use Rattle.px_cluster.specs.Astray.{FencesUnanswered, GoesAstray, GoesUnanswered, Happens, IsLost, Move, Moves, Unanswered}
+use Rattle.px_cluster.specs.Astray.{FencesUnanswered, GoesAstray, GoesUnanswered, Happens, IsLost, Unanswered}
 use Rattle.px_cluster.specs.Cluster.{Cluster}
 use Rattle.px_cluster.specs.Core.{Core, restarted}
 use Rattle.px_cluster.specs.Deliveries.{Delivers, Fences, ReadsRefs, TakesSnapshot, fence_kept}

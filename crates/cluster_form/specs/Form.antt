@@ -2,7 +2,7 @@
 use Rattle.px_cluster.specs.Cluster.{Cluster}
 use Rattle.px_cluster.specs.Core.{Core}
 use Rattle.cluster_form.specs.Books.{AreBooks}
-use Rattle.cluster_form.specs.Drawn.{AreUsesDrawn}
+use Rattle.cluster_form.specs.Drawn.{AreOfMembers, AreUsesDrawn}
 use Rattle.cluster_form.specs.Homes.{AreJobsHome}
 use Rattle.cluster_form.specs.Jobs.{AreJobs}
 use Rattle.cluster_form.specs.Turns.{AreTurns}
@@ -17,7 +17,9 @@ pub record IsFormed (core : Core) : Type 0 where
   pub within : AreWithin core
   pub homes : AreJobsHome core
 
--- .. and the ledger names only leases that were drawn
+-- .. the ledger names only leases that were drawn, and the lease of an open push is used at its members
+-- alone
 pub record HasForm (cluster : Cluster) : Type 0 where
   pub core : IsFormed cluster.core
   pub uses : AreUsesDrawn cluster.core cluster.ledger
+  pub members : AreOfMembers cluster.core cluster.ledger

@@ -4,9 +4,13 @@ use Rattle.px_ops.specs.declared.op.Op.{Op}
 use Rattle.px_cluster.specs.Cluster.{Cluster}
 use Rattle.px_cluster.specs.Core.{Core, empty, restarted}
 use Rattle.px_cluster.specs.Ops.{left_by, refusal_of}
-use Rattle.cluster_form.specs.Always.{HoldsAlways, IsKept}
-use Rattle.cluster_form.specs.Jobs.{AreInOrder}
-use Rattle.cluster_form.specs.Drawn.{AreOfMembers, AreUsesDrawn}
+use Rattle.cluster_form.specs.Always.{HoldsAlways, IsKept, OfCore}
+use Rattle.cluster_form.specs.Books.{AreBooks}
+use Rattle.cluster_form.specs.Homes.{AreJobsHome}
+use Rattle.cluster_form.specs.Tables.{AreTables}
+use Rattle.cluster_form.specs.Turns.{AreTurns}
+use Rattle.cluster_form.specs.Jobs.{AreInOrder, AreJobs}
+use Rattle.cluster_form.specs.Drawn.{AreLeasesDrawn, AreOfMembers, AreUsesDrawn}
 use Rattle.px_cluster.specs.Ledger.{Ledger}
 use Rattle.cluster_form.specs.Form.{HasForm, IsFormed}
 use Rattle.cluster_form.proofs.BooksKept.{books_again, books_left, no_books}
@@ -17,6 +21,7 @@ use Rattle.cluster_form.proofs.MembersKept.{members_left, same_members}
 use Rattle.cluster_form.proofs.Uses.{uses_kept}
 use Rattle.cluster_form.proofs.JobsHome.{homes_again, homes_left}
 use Rattle.cluster_form.proofs.JobsKept.{jobs_again, jobs_left, no_jobs}
+use Rattle.cluster_form.proofs.TablesKept.{no_tables, tables_again, tables_left}
 use Rattle.cluster_form.proofs.TurnsKept.{no_turns, turns_again, turns_left}
 use Rattle.cluster_form.proofs.WithinBooks.{books_within}
 use Rattle.cluster_form.proofs.WithinRows.{rows_within}
@@ -31,6 +36,7 @@ within_left core asked order within =
 left : (core : Core) (asked : Op) → refusal_of core asked ≡ None → IsFormed core
     → IsFormed (left_by core asked)
 left core asked none form = record {
+  tables = tables_left core asked none form.tables;
   books = books_left core asked none form.books;
   jobs = jobs_left core asked form.books.dense form.jobs;
   turns = turns_left core asked none form.books.dense form.turns;
@@ -40,6 +46,7 @@ left core asked none form = record {
 
 again : (core : Core) → IsFormed core → IsFormed (restarted core)
 again core form = record {
+  tables = tables_again core form.tables;
   books = books_again core form.books;
   jobs = jobs_again core form.jobs;
   turns = turns_again core form.turns;
@@ -49,6 +56,7 @@ again core form = record {
 
 at_first : IsFormed empty
 at_first = record {
+  tables = no_tables;
   books = no_books;
   jobs = no_jobs;
   turns = no_turns;
@@ -76,9 +84,32 @@ all_kept = uses_kept All
 
 pub form_kept : IsKept HasForm
 form_kept old new move form is =
-    let all = all_kept old new move (form.core, form.uses, form.members) is in
-    record { core = all.0; uses = all.1; members = all.2 }
+    let all = all_kept old new move (form.core, form.leases.uses, form.leases.members) is in
+    record { core = all.0; leases = record { uses = all.1; members = all.2 } }
 
 pub form_always : HoldsAlways HasForm
 form_always = always HasForm form_kept
-    (λ node. record { core = at_first; uses = no_uses empty; members = tt })
+    (λ node. record { core = at_first; leases = record { uses = no_uses empty; members = tt } })
+
+-- ---- by its parts
+
+pub tables_always : HoldsAlways (OfCore AreTables)
+tables_always node moves new is = (form_always node moves new is).core.tables
+
+pub books_always : HoldsAlways (OfCore AreBooks)
+books_always node moves new is = (form_always node moves new is).core.books
+
+pub jobs_always : HoldsAlways (OfCore AreJobs)
+jobs_always node moves new is = (form_always node moves new is).core.jobs
+
+pub homes_always : HoldsAlways (OfCore AreJobsHome)
+homes_always node moves new is = (form_always node moves new is).core.homes
+
+pub turns_always : HoldsAlways (OfCore AreTurns)
+turns_always node moves new is = (form_always node moves new is).core.turns
+
+pub within_always : HoldsAlways (OfCore AreWithin)
+within_always node moves new is = (form_always node moves new is).core.within
+
+pub leases_always : HoldsAlways AreLeasesDrawn
+leases_always node moves new is = (form_always node moves new is).leases

@@ -16,6 +16,7 @@ mod Registries
 mod Panels
 mod TurnLists
 mod TurnsKept
+mod TablesKept
 mod BooksWithin
 mod Among
 mod WithinBooks

@@ -2,6 +2,7 @@
 -- an open push is used at its members alone.
 use Rattle.std.specs.Prelude.{◌≡◌, ◌≤◌, ℕ, Bool, true, false}
 use Rattle.std.specs.List.{AllByRecursion}
+use Rattle.px_cluster.specs.Cluster.{Cluster}
 use Rattle.px_cluster.specs.Core.{Core, OpenPush}
 use Rattle.px_cluster.specs.Ledger.{Creation, Deleting, Fencing, Ledger, Purpose, Pushing, Unused, Updating}
 use Rattle.px_cluster.specs.Numbers.{is_one_of}
@@ -34,3 +35,8 @@ IsOfMembers ledger push = (storage : ℕ)
 
 abbrev pub AreOfMembers : Core → Ledger → Type 0
 AreOfMembers core ledger = AllByRecursion (IsOfMembers ledger) core.pushes
+
+-- both of a cluster
+pub record AreLeasesDrawn (cluster : Cluster) : Type 0 where
+  pub uses : AreUsesDrawn cluster.core cluster.ledger
+  pub members : AreOfMembers cluster.core cluster.ledger

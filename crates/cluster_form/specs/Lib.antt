@@ -1,4 +1,5 @@
 pub mod Always
+pub mod Tables
 pub mod Books
 pub mod Jobs
 pub mod Turns

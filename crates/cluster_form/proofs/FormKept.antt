@@ -1,6 +1,7 @@
 -- Each move keeps the form of the data, and so it is there after every list of moves.
-use Rattle.std.proofs.Common.{◌≡◌, None}
+use Rattle.std.proofs.Common.{sym, subst, ◌≡◌, None}
 use Rattle.px_ops.specs.declared.op.Op.{Op}
+use Rattle.px_cluster.specs.Acknowledged.{done_in, event_refusal}
 use Rattle.px_cluster.specs.Cluster.{Cluster}
 use Rattle.px_cluster.specs.Core.{Core, empty, restarted}
 use Rattle.px_cluster.specs.Ops.{left_by, refusal_of}
@@ -18,7 +19,7 @@ use Rattle.cluster_form.proofs.Induction.{always, first_none}
 use Rattle.cluster_form.proofs.LedgerKept.{no_uses, uses_again, uses_left}
 use Rattle.cluster_form.proofs.LedgerUses.{same_uses}
 use Rattle.cluster_form.proofs.MembersKept.{members_left, same_members}
-use Rattle.cluster_form.proofs.Uses.{uses_kept}
+use Rattle.cluster_form.proofs.Uses.{SameUses, uses_kept}
 use Rattle.cluster_form.proofs.JobsHome.{homes_again, homes_left}
 use Rattle.cluster_form.proofs.JobsKept.{jobs_again, jobs_left, no_jobs}
 use Rattle.cluster_form.proofs.TablesKept.{no_tables, tables_again, tables_left}
@@ -66,26 +67,36 @@ at_first = record {
 
 -- ---- the core and the ledger together
 
-abbrev All : Core → Ledger → Type 0
-All core ledger = IsFormed core × AreUsesDrawn core ledger × AreOfMembers core ledger
+same_form : (old new : Cluster) → new.core ≡ old.core → SameUses old.ledger new.ledger
+    → new.pushed ≡ old.pushed → new.worked ≡ old.worked → HasForm old → HasForm new
+same_form old new core uses pushed worked form = record {
+  core = subst IsFormed (sym core) form.core;
+  leases = record {
+    uses = same_uses new.core old.ledger new.ledger uses
+        (subst (λ core_. AreUsesDrawn core_ old.ledger) (sym core) form.leases.uses);
+    members = same_members new.core.pushes old.ledger new.ledger uses
+        (subst (λ core_. AreOfMembers core_ old.ledger) (sym core) form.leases.members);
+  };
+}
 
-all_kept : IsKept (λ (c : Cluster). All c.core c.ledger)
-all_kept = uses_kept All
-    (λ core old new same all. (
-      all.0,
-      same_uses core old new same all.1,
-      same_members core.pushes old new same all.2,
-    ))
-    (λ old asked none all. (
-      left old.core asked (first_none (refusal_of old.core asked) _ none) all.0,
-      uses_left old asked none all.0 all.1,
-      members_left old asked all.0 all.1 all.2,
-    )) (λ core ledger all. (again core all.0, uses_again core ledger all.1, tt))
+form_left : (old : Cluster) (asked : Op) → event_refusal old asked ≡ None → HasForm old
+    → HasForm (done_in old asked)
+form_left old asked none form = record {
+  core = left old.core asked (first_none (refusal_of old.core asked) _ none) form.core;
+  leases = record {
+    uses = uses_left old asked none form.core form.leases.uses;
+    members = members_left old asked form.core form.leases.uses form.leases.members;
+  };
+}
+
+form_again : (old : Cluster) → HasForm old → HasForm (record old { core = restarted old.core })
+form_again old form = record {
+  core = again old.core form.core;
+  leases = record { uses = uses_again old.core old.ledger form.leases.uses; members = tt };
+}
 
 pub form_kept : IsKept HasForm
-form_kept old new move form is =
-    let all = all_kept old new move (form.core, form.leases.uses, form.leases.members) is in
-    record { core = all.0; leases = record { uses = all.1; members = all.2 } }
+form_kept = uses_kept HasForm same_form form_left form_again
 
 pub form_always : HoldsAlways HasForm
 form_always = always HasForm form_kept

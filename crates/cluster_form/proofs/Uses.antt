@@ -78,38 +78,37 @@ same_with ledger repo storage lease purpose same r s l =
     same ∙ (λ i. is_used (ledger (sym is_repo i) (sym is_storage i) (sym is_lease i))))
     (λ fails. refl)
 
--- ---- what is true by the core and the uses
+-- ---- what is true by the core, the uses, and where effects of pushes and jobs go
 
-module _ (P : Core → Ledger → Type 0)
-    (same : (core : Core) (old new : Ledger) → SameUses old new → P core old → P core new)
-    (kept : (old : Cluster) (asked : Op) → event_refusal old asked ≡ None → P old.core old.ledger
-    → P (left_by old.core asked) (issues old asked).ledger)
-    (again : (core : Core) (ledger : Ledger) → P core ledger → P (restarted core) ledger) where
+module _ (P : Cluster → Type 0)
+    (same : (old new : Cluster) → new.core ≡ old.core → SameUses old.ledger new.ledger
+    → new.pushed ≡ old.pushed → new.worked ≡ old.worked → P old → P new)
+    (kept : (old : Cluster) (asked : Op) → event_refusal old asked ≡ None → P old
+    → P (done_in old asked))
+    (again : (old : Cluster) → P old → P (record old { core = restarted old.core })) where
   abbrev Leads : Cluster → Cluster → Type 0
-  Leads old new = P old.core old.ledger → P new.core new.ledger
+  Leads old new = P old → P new
 
   -- it is a cluster of the same core and the same uses
   leads : (old new then_ : Cluster) → new ≡ then_ → then_.core ≡ old.core
-      → SameUses old.ledger then_.ledger → Leads old new
-  leads old new then_ is core uses holds =
-      subst (λ (c : Cluster). P c.core c.ledger) (sym is)
-      (subst (λ core_. P core_ then_.ledger) (sym core)
-      (same old.core old.ledger then_.ledger uses holds))
+      → SameUses old.ledger then_.ledger → then_.pushed ≡ old.pushed → then_.worked ≡ old.worked
+      → Leads old new
+  leads old new then_ is core uses pushed worked holds =
+      subst P (sym is) (same old then_ core uses pushed worked holds)
 
   stays : (old new : Cluster) → new ≡ old → Leads old new
-  stays old new is = leads old new old is refl (same_self_uses old.ledger)
+  stays old new is = leads old new old is refl (same_self_uses old.ledger) refl refl
 
   asked_by : (old : Cluster) (asked : Op) (refusal : Option Refusal)
-      → event_refusal old asked ≡ refusal → P old.core old.ledger
-      → let new = unless_refused refusal old (done_in old asked) in P new.core new.ledger
+      → event_refusal old asked ≡ refusal → P old
+      → P (unless_refused refusal old (done_in old asked))
   asked_by old asked None is holds = kept old asked is holds
   asked_by old asked (Some why) is holds = holds
 
   asking : (old new : Cluster) (asked : Op) (answer : Answer) → IsAsked old asked answer new
       → Leads old new
   asking old new asked answer is holds =
-      subst (λ (c : Cluster). P c.core c.ledger) (sym is.leads)
-      (asked_by old asked (event_refusal old asked) refl holds)
+      subst P (sym is.leads) (asked_by old asked (event_refusal old asked) refl holds)
 
   module _ {A : Type 0} (refuses : ReplicaState → NodeRefusal → Type 0)
       (does : ReplicaState → A → ReplicaState → Type 0) (tells : A → Answer)
@@ -119,14 +118,14 @@ module _ (P : Core → Ledger → Type 0)
     delivering old new None answer is = stays old new is.1
     delivering old new (Some effect) answer (inl is) = stays old new is.same
     delivering old new (Some effect) answer (inr is) = leads old new _ is.changes refl
-        (same_with old.ledger effect.at.repo effect.at.storage effect.lease _ (keeps_use _))
+        (same_with old.ledger effect.at.repo effect.at.storage effect.lease _ (keeps_use _)) refl refl
 
   fencing : (old new : Cluster) (effect : Option Effect) (answer : Answer)
       → Fences old effect answer new → Leads old new
   fencing old new None answer is = stays old new is.1
   fencing old new (Some effect) answer is = leads old new _ is.1 refl
       (same_with old.ledger effect.at.repo effect.at.storage effect.lease _
-      (fence_use (state_at old effect.at) _))
+      (fence_use (state_at old effect.at) _)) refl refl
 
   reading : (old new : Cluster) (location : Option Location) (answer : Answer)
       → ReadsRefs old location answer new → Leads old new
@@ -140,7 +139,7 @@ module _ (P : Core → Ledger → Type 0)
   taking_snapshot old new (Some source) (Some effect) answer (inl is) = stays old new is.same
   taking_snapshot old new (Some source) (Some effect) answer (inr is) = leads old new _ is.kept refl
       (same_with old.ledger effect.at.repo effect.at.storage effect.lease _
-      (snapshot_use is.snapshot _))
+      (snapshot_use is.snapshot _)) refl refl
 
   by_event : (old new : Cluster) (happened : Event) (answer : Answer)
       → Step old happened answer new → Leads old new
@@ -173,19 +172,19 @@ module _ (P : Core → Ledger → Type 0)
   by_event old new (event.Fence storage repo lease) answer is =
       fencing old new (effect_of old (event.Fence storage repo lease)) answer is
   by_event old new event.Restart answer is = λ holds.
-      subst (λ (c : Cluster). P c.core c.ledger) (sym is.leads) (again old.core old.ledger holds)
+      subst P (sym is.leads) (again old holds)
 
   module _ {A : Type 0} (does : ReplicaState → A → ReplicaState → Type 0) where
     unanswered_call : (old new : Cluster) (effect : Option Effect)
         → GoesUnanswered does old effect new → Leads old new
     unanswered_call old new None is = absurd is
     unanswered_call old new (Some effect) is =
-        leads old new _ is.changes refl (same_self_uses old.ledger)
+        leads old new _ is.changes refl (same_self_uses old.ledger) refl refl
 
   unanswered_fence : (old new : Cluster) (effect : Option Effect)
       → FencesUnanswered old effect new → Leads old new
   unanswered_fence old new None is = absurd is
-  unanswered_fence old new (Some effect) is = leads old new _ is refl (same_self_uses old.ledger)
+  unanswered_fence old new (Some effect) is = leads old new _ is refl (same_self_uses old.ledger) refl refl
 
   astray : (old new : Cluster) (happened : Event) → Unanswered old happened new → Leads old new
   astray old new (event.Asks asked) is = absurd is
@@ -208,9 +207,9 @@ module _ (P : Core → Ledger → Type 0)
       unanswered_fence old new (effect_of old (event.Fence storage repo lease)) is
   astray old new event.Restart is = absurd is
 
-  pub uses_kept : IsKept (λ (c : Cluster). P c.core c.ledger)
+  pub uses_kept : IsKept P
   uses_kept old new (Happens happened answer) holds is =
       by_event old new happened answer is holds
   uses_kept old new (GoesAstray happened) holds is = astray old new happened is holds
   uses_kept old new (IsLost storage test) holds is =
-      leads old new _ is refl (same_self_uses old.ledger) holds
+      leads old new _ is refl (same_self_uses old.ledger) refl refl holds

@@ -1,8 +1,8 @@
 -- Two repositories of one virtual storage have two paths, after each change of the book.
-use Rattle.std.proofs.Common.{◌≡◌, ℕ, ◌==◌, zero, suc, List, [], ◌∷◌, ◌++◌, None, Some, refl, sym, ◌∙◌, ap, subst, inl, inr, slice_get, set, map, length}
+use Rattle.std.proofs.Common.{◌≡◌, ℕ, zero, suc, List, [], ◌∷◌, ◌++◌, None, Some, refl, sym, ◌∙◌, ap, subst, slice_get, set, map}
 use Rattle.px_cluster.specs.Book.{Repository}
 use Rattle.cluster_form.proofs.AlikeBooks.{AreAlike}
-use Rattle.cluster_form.proofs.Lists.{bool, other_number, same_number, some_is}
+use Rattle.cluster_form.proofs.Lists.{some_is}
 use Rattle.cluster_form.proofs.Places.{apart_more}
 
 -- as the book has it

@@ -1,5 +1,5 @@
 -- Each move keeps the form of the data, and so it is there after every list of moves.
-use Rattle.std.proofs.Common.{sym, subst, ◌≡◌, None}
+use Rattle.std.proofs.Common.{sym, subst, Some, ◌≡◌, None}
 use Rattle.px_ops.specs.declared.op.Op.{Op}
 use Rattle.px_cluster.specs.Acknowledged.{done_in, event_refusal}
 use Rattle.px_cluster.specs.Cluster.{Cluster}
@@ -12,7 +12,6 @@ use Rattle.cluster_form.specs.Tables.{AreTables}
 use Rattle.cluster_form.specs.Turns.{AreTurns}
 use Rattle.cluster_form.specs.Jobs.{AreInOrder, AreJobs}
 use Rattle.cluster_form.specs.Drawn.{AreLeasesDrawn, AreOfMembers, AreUsesDrawn}
-use Rattle.px_cluster.specs.Ledger.{Ledger}
 use Rattle.cluster_form.specs.Form.{HasForm, IsFormed}
 use Rattle.cluster_form.proofs.BooksKept.{books_again, books_left, no_books}
 use Rattle.cluster_form.proofs.Induction.{always, first_none}
@@ -22,6 +21,9 @@ use Rattle.cluster_form.proofs.MembersKept.{members_left, same_members}
 use Rattle.cluster_form.proofs.Uses.{SameUses, uses_kept}
 use Rattle.cluster_form.proofs.JobsHome.{homes_again, homes_left}
 use Rattle.cluster_form.proofs.JobsKept.{jobs_again, jobs_left, no_jobs}
+use Rattle.cluster_form.proofs.JobRoutes.{job_routes_again, job_routes_left}
+use Rattle.cluster_form.proofs.PushRoutes.{push_routes_again, push_routes_left}
+use Rattle.cluster_form.specs.Routes.{AreJobRoutes, ArePushRoutes, AreRoutes}
 use Rattle.cluster_form.proofs.TablesKept.{no_tables, tables_again, tables_left}
 use Rattle.cluster_form.proofs.TurnsKept.{no_turns, turns_again, turns_left}
 use Rattle.cluster_form.proofs.WithinBooks.{books_within}
@@ -77,6 +79,12 @@ same_form old new core uses pushed worked form = record {
     members = same_members new.core.pushes old.ledger new.ledger uses
         (subst (λ core_. AreOfMembers core_ old.ledger) (sym core) form.leases.members);
   };
+  routes = record {
+    pushes = subst (ArePushRoutes new.core) (sym pushed)
+        (subst (λ core_. ArePushRoutes core_ old.pushed) (sym core) form.routes.pushes);
+    jobs = subst (AreJobRoutes new.core) (sym worked)
+        (subst (λ core_. AreJobRoutes core_ old.worked) (sym core) form.routes.jobs);
+  };
 }
 
 form_left : (old : Cluster) (asked : Op) → event_refusal old asked ≡ None → HasForm old
@@ -87,20 +95,38 @@ form_left old asked none form = record {
     uses = uses_left old asked none form.core form.leases.uses;
     members = members_left old asked form.core form.leases.uses form.leases.members;
   };
+  routes = record {
+    pushes = push_routes_left old asked form.core form.routes.pushes;
+    jobs = job_routes_left old asked form.core form.routes.jobs;
+  };
 }
 
 form_again : (old : Cluster) → HasForm old → HasForm (record old { core = restarted old.core })
 form_again old form = record {
   core = again old.core form.core;
   leases = record { uses = uses_again old.core old.ledger form.leases.uses; members = tt };
+  routes = record {
+    pushes = push_routes_again old.core old.pushed form.routes.pushes;
+    jobs = job_routes_again old.core old.worked form.routes.jobs;
+  };
 }
 
 pub form_kept : IsKept HasForm
 form_kept = uses_kept HasForm same_form form_left form_again
 
 pub form_always : HoldsAlways HasForm
-form_always = always HasForm form_kept
-    (λ node. record { core = at_first; leases = record { uses = no_uses empty; members = tt } })
+form_always = always HasForm form_kept (λ node. record {
+  core = at_first;
+  leases = record { uses = no_uses empty; members = tt };
+  routes = record {
+    pushes = record {
+      each = λ tx to there. absurd (let z : None ≡ Some to = there in cc);
+      apart = λ one other a b here. absurd (let z : None ≡ Some a = here in cc);
+      open_ = tt;
+    };
+    jobs = λ job to there. absurd (let z : None ≡ Some to = there in cc);
+  };
+})
 
 -- ---- by its parts
 
@@ -124,3 +150,6 @@ within_always node moves new is = (form_always node moves new is).core.within
 
 pub leases_always : HoldsAlways AreLeasesDrawn
 leases_always node moves new is = (form_always node moves new is).leases
+
+pub routes_always : HoldsAlways AreRoutes
+routes_always node moves new is = (form_always node moves new is).routes

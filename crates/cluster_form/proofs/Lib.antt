@@ -28,4 +28,6 @@ mod LedgerUses
 mod LedgerKept
 mod PushLists
 mod MembersKept
+mod PushRoutes
+mod JobRoutes
 mod FormKept

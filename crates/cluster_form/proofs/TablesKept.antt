@@ -1,5 +1,5 @@
 -- Lists by dense numbers stay as long as they should be, and names apart, at each operation.
-use Rattle.std.proofs.Common.{◌≡◌, ◌+◌, ◌==◌, ℕ, zero, suc, not, List, [], ◌∷◌, ◌++◌, Bool, true, false, Option, None, Some, refl, sym, ◌∙◌, ap, subst, inl, inr, filter, length, map, set, slice_get, arith}
+use Rattle.std.proofs.Common.{◌≡◌, ◌+◌, ℕ, zero, suc, List, [], ◌∷◌, ◌++◌, Bool, true, false, Option, None, Some, refl, sym, ◌∙◌, ap, subst, length, map, set, arith}
 use Rattle.std.specs.Option.{option_map}
 use Rattle.px_base.specs.declared.hash.Hash.{Hash}
 use Rattle.px_base.specs.declared.ids.TxId.{TxId}
@@ -15,12 +15,12 @@ use Rattle.txmanager.specs.Voting.{Voting}
 use Rattle.px_cluster.specs.Book.{Repository, Storage}
 use Rattle.px_cluster.specs.Casts.{booked_by, cast_on, with_cast_booked}
 use Rattle.px_cluster.specs.Core.{Core, OpenPush, empty, job_at, push_of, repository, restarted, voting, with_repository_by}
-use Rattle.px_cluster.specs.Creating.{admit_refusal, found, has_name, with_created}
+use Rattle.px_cluster.specs.Creating.{found, has_name, with_created}
 use Rattle.px_cluster.specs.Jobs.{ended_job, with_end_booked, without_job, without_running}
 use Rattle.px_cluster.specs.Numbers.{first_of, places_of}
 use Rattle.px_cluster.specs.Ops.{left_by, refusal_of}
 use Rattle.px_cluster.specs.Pushes.{begun_at}
-use Rattle.px_cluster.specs.Refusals.{cause, first_cause}
+use Rattle.px_cluster.specs.Refusals.{first_cause}
 use Rattle.px_cluster.specs.Taking.{Drop, Next, PassOver, Take, Taking, dequeued, dequeued_by, next_job, taken_in}
 use Rattle.cluster_form.specs.Tables.{AreNamesApart, AreTables}
 use Rattle.cluster_form.proofs.Lists.{same_bytes}

@@ -8,14 +8,13 @@ use Rattle.px_ops.specs.declared.refusal.Refusal.{Refusal}
 use Rattle.px_cluster.specs.Acknowledged.{done_in, event_refusal}
 use Rattle.px_cluster.specs.Astray.{FencesUnanswered, GoesAstray, GoesUnanswered, Happens, IsLost, Unanswered}
 use Rattle.px_cluster.specs.Cluster.{Cluster}
-use Rattle.px_cluster.specs.Core.{Core, restarted}
+use Rattle.px_cluster.specs.Core.{restarted}
 use Rattle.px_cluster.specs.Deliveries.{Delivers, Fences, ReadsRefs, TakesSnapshot, fence_kept}
 use Rattle.px_cluster.specs.Effects.{Effect, Location, effect_of, location_of, source_of, state_at}
 use Rattle.px_cluster.specs.Events.{Answer, Event, Voted}
 use Rattle.px_cluster.specs.Events as event
-use Rattle.px_cluster.specs.Issues.{issues}
 use Rattle.px_cluster.specs.Ledger.{Creation, Deleting, Fencing, Ledger, Purpose, Pushing, Unused, Updating, answered, with_last, with_purpose, with_snapshot}
-use Rattle.px_cluster.specs.Ops.{left_by, unless_refused}
+use Rattle.px_cluster.specs.Ops.{unless_refused}
 use Rattle.px_cluster.specs.Step.{IsAsked, Step, keeps_nothing, settling, tells_done}
 use Rattle.cluster_form.specs.Always.{IsKept}
 use Rattle.cluster_form.specs.Drawn.{is_used}

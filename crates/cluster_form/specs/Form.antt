@@ -5,6 +5,7 @@ use Rattle.cluster_form.specs.Books.{AreBooks}
 use Rattle.cluster_form.specs.Drawn.{AreLeasesDrawn}
 use Rattle.cluster_form.specs.Homes.{AreJobsHome}
 use Rattle.cluster_form.specs.Jobs.{AreJobs}
+use Rattle.cluster_form.specs.Routes.{AreRoutes}
 use Rattle.cluster_form.specs.Tables.{AreTables}
 use Rattle.cluster_form.specs.Turns.{AreTurns}
 use Rattle.cluster_form.specs.Within.{AreWithin}
@@ -19,7 +20,8 @@ pub record IsFormed (core : Core) : Type 0 where
   pub within : AreWithin core
   pub homes : AreJobsHome core
 
--- .. and the ledger names only leases that were drawn
+-- .. the ledger names only leases that were drawn, and effects of pushes and jobs go where they should
 pub record HasForm (cluster : Cluster) : Type 0 where
   pub core : IsFormed cluster.core
   pub leases : AreLeasesDrawn cluster
+  pub routes : AreRoutes cluster

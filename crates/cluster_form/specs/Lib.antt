@@ -6,4 +6,5 @@ pub mod Turns
 pub mod Within
 pub mod Homes
 pub mod Drawn
+pub mod Routes
 pub mod Form

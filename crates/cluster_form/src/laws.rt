@@ -8,6 +8,7 @@ ghost use Rattle.cluster_form.specs.Drawn.{AreLeasesDrawn};
 ghost use Rattle.cluster_form.specs.Form.{HasForm};
 ghost use Rattle.cluster_form.specs.Homes.{AreJobsHome};
 ghost use Rattle.cluster_form.specs.Jobs.{AreJobs};
+ghost use Rattle.cluster_form.specs.Routes.{AreRoutes};
 ghost use Rattle.cluster_form.specs.Tables.{AreTables};
 ghost use Rattle.cluster_form.specs.Turns.{AreTurns};
 ghost use Rattle.cluster_form.specs.Within.{AreWithin};
@@ -56,4 +57,10 @@ pub fn no_number_is_ahead_of_what_was_given()
 /// repository on record; and under the lease of an open push only to its members.
 pub fn effects_have_leases_that_were_drawn()
     ensures { HoldsAlways AreLeasesDrawn }
+{}
+
+/// Each transaction of a push that ever began leads to a lease that was drawn, for it alone, and that of
+/// an open push to its own. Each job that was ever taken leads to a replica of its repository.
+pub fn effects_go_where_they_were_issued()
+    ensures { HoldsAlways AreRoutes }
 {}

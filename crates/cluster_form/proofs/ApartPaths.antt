@@ -1,9 +1,9 @@
 -- Two repositories of one virtual storage have two paths, after each change of the book.
-use Rattle.std.proofs.Common.{◌≡◌, ℕ, ◌==◌, zero, suc, List, [], ◌∷◌, ◌++◌, None, Some, refl, sym, ◌∙◌, ap, subst, inl, inr, slice_get, set, map, length}
+use Rattle.std.proofs.Common.{◌≡◌, ℕ, zero, suc, List, [], ◌∷◌, ◌++◌, None, Some, refl, sym, ◌∙◌, ap, subst, slice_get, set, map}
 use Rattle.px_cluster.specs.Book.{Repository}
 use Rattle.cluster_form.proofs.AlikeBooks.{AreAlike}
-use Rattle.cluster_form.proofs.Lists.{bool, other_number, same_number, some_is}
-use Rattle.cluster_form.proofs.Places.{got_before, got_last}
+use Rattle.cluster_form.proofs.Lists.{some_is}
+use Rattle.cluster_form.proofs.Places.{apart_more}
 
 -- as the book has it
 abbrev pub AreApart : List Repository → Type 0
@@ -88,38 +88,12 @@ were_set (book ∷ books) (suc at) was new is virt path (suc repo) now there =
     later_was book books repo now (were_set books at was new is virt path repo now there)
 
 -- one came, and there was none of its virtual storage and path
-module _ (books : List Repository) (new : Repository)
-    (none : (repo : ℕ) (book : Repository) → slice_get books repo ≡ Some book
-    → book.virt ≡ new.virt → book.path ≡ new.path → ⊥) where
-  is_new : (repo : ℕ) (x : Repository) → slice_get (books ++ new ∷ []) repo ≡ Some x
-      → repo ≡ length books → x ≡ new
-  is_new repo x is last = some_is x new
-      (sym is ∙ ap (slice_get (books ++ new ∷ [])) last ∙ got_last books new)
-
-  -- one that stood there before is another than the new one
-  another : (repo last : ℕ) (a b : Repository) → slice_get (books ++ new ∷ []) repo ≡ Some a
-      → slice_get (books ++ new ∷ []) last ≡ Some b → (repo ≡ length books → ⊥)
-      → last ≡ length books → a.virt ≡ b.virt → a.path ≡ b.path → ⊥
-  another repo last a b here there before is virt path =
-      let same = is_new last b there is in
-      none repo a (got_before books new a repo before here)
-      (virt ∙ ap (λ (x : Repository). x.virt) same) (path ∙ ap (λ (x : Repository). x.path) same)
-
-  pub apart_more : AreApart books → AreApart (books ++ new ∷ [])
-  apart_more apart one other a b here there virt path =
-      elim (bool (one == length books)) [
-        | inl holds ↦ (let first = same_number one (length books) holds in
-            elim (bool (other == length books)) [
-              | inl also ↦ (first ∙ sym (same_number other (length books) also))
-              | inr fails ↦ absurd (another other one b a there here
-                  (other_number other (length books) fails) first (sym virt) (sym path))
-            ])
-        | inr fails ↦ (let first = other_number one (length books) fails in
-            elim (bool (other == length books)) [
-              | inl holds ↦ absurd (another one other a b here there first
-                  (same_number other (length books) holds) virt path)
-              | inr also ↦ apart one other a b (got_before books new a one first here)
-                  (got_before books new b other (other_number other (length books) also) there)
-                  virt path
-            ])
-      ]
+pub apart_with : (books : List Repository) (new : Repository)
+    → ((repo : ℕ) (book : Repository) → slice_get books repo ≡ Some book → book.virt ≡ new.virt
+    → book.path ≡ new.path → ⊥) → AreApart books → AreApart (books ++ new ∷ [])
+apart_with books new none apart one other a b here there virt path =
+    apart_more (λ (x y : Repository). (x.virt ≡ y.virt) × (x.path ≡ y.path))
+    (λ x y same. (sym same.0, sym same.1)) books new
+    (λ repo book is same. none repo book is same.0 same.1)
+    (λ i j x y is too same. apart i j x y is too same.0 same.1) one other a b here there
+    (virt, path)

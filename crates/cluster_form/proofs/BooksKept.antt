@@ -13,7 +13,7 @@ use Rattle.px_cluster.specs.Ops.{left_by, refusal_of}
 use Rattle.px_cluster.specs.Refusals.{cause, first_cause}
 use Rattle.cluster_form.specs.Books.{AreBooks, HasAssigned, IsDense}
 use Rattle.cluster_form.proofs.AlikeBooks.{AreAlike, IsPlain, left_alike}
-use Rattle.cluster_form.proofs.ApartPaths.{AreApart, apart_more, still_apart, were_alike, were_mapped, were_set}
+use Rattle.cluster_form.proofs.ApartPaths.{AreApart, apart_with, still_apart, were_alike, were_mapped, were_set}
 use Rattle.cluster_form.proofs.AssignedBooks.{assigned_admitted, assigned_alike, assigned_created, assigned_reassigned}
 use Rattle.cluster_form.proofs.DenseBooks.{all_alike_too, dense_admitted, dense_alike, dense_created, dense_reassigned, dense_unmade}
 use Rattle.cluster_form.proofs.Lists.{all_both, all_got, all_map, all_set, both_left, bytes_same, if_kept, same_bytes}
@@ -117,7 +117,7 @@ module _ (core : Core) (virt path : List ℕ) (factor : ℕ)
           some,
       tt,
     );
-    apart = apart_more core.repositories first (none_there none) form.apart;
+    apart = apart_with core.repositories first (none_there none) form.apart;
   }
 
   again : (repo : ℕ) → found core virt path ≡ Some repo

@@ -1,5 +1,5 @@
 -- What is at home stays so at each operation, and at a restart.
-use Rattle.std.proofs.Common.{◌≡◌, ◌+◌, ◌==◌, ◌||◌, ℕ, List, [], ◌∷◌, ◌++◌, Bool, true, false, if◌then◌else◌, Option, None, Some, refl, sym, ◌∙◌, ap, subst, length}
+use Rattle.std.proofs.Common.{◌≡◌, ◌==◌, ◌||◌, ℕ, List, [], ◌∷◌, ◌++◌, Bool, true, false, Option, None, Some, refl, ◌∙◌, ap}
 use Rattle.px_ops.specs.declared.op.Op.{Op}
 use Rattle.px_ops.specs.declared.op.Op.TheVariants as op
 use Rattle.px_cluster.proofs.Growing.{left}
@@ -11,7 +11,6 @@ use Rattle.px_cluster.specs.Numbers.{is_one_of}
 use Rattle.px_cluster.specs.Ops.{left_by}
 use Rattle.cluster_form.specs.Homes.{IsHome}
 use Rattle.cluster_form.proofs.AlikeBooks.{IsPlain, left_alike}
-use Rattle.cluster_form.proofs.OneOf.{or_later}
 use Rattle.cluster_form.proofs.Places.{places_more}
 use Rattle.cluster_form.proofs.WithinLists.{later_there}
 
@@ -22,7 +21,7 @@ StillThere old new = (virt : List ℕ) (storage : ℕ)
     → is_one_of storage (storages_of old virt) ≡ true
     → is_one_of storage (storages_of new virt) ≡ true
 
-one_of_more : (storage : ℕ) (ns more : List ℕ) → is_one_of storage ns ≡ true
+pub one_of_more : (storage : ℕ) (ns more : List ℕ) → is_one_of storage ns ≡ true
     → is_one_of storage (ns ++ more) ≡ true
 one_of_more storage [] more is = absurd (let z : false ≡ true = is in cc)
 one_of_more storage (n ∷ ns) more is = by (n == storage) is (one_of_more storage ns more)
@@ -58,7 +57,7 @@ by_plain : (core : Core) (asked : Op) → IsPlain asked
     → StillThere core.storages (left_by core asked).storages
 by_plain core asked is = same_storages core (left_by core asked) (left_alike core asked is).1
 
-still_left : (core : Core) (asked : Op) → StillThere core.storages (left_by core asked).storages
+pub still_left : (core : Core) (asked : Op) → StillThere core.storages (left_by core asked).storages
 still_left core (op.Admit virt name) =
     still_admitted core.storages (record { virt = virt; name = name })
 still_left core (op.Create virt path factor) = same_storages core (left_by core (op.Create virt path factor))

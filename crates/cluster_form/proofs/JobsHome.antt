@@ -1,5 +1,5 @@
 -- Each job is for a replica of its repository, after each operation.
-use Rattle.std.proofs.Common.{◌≡◌, ◌==◌, ◌-◌, ◌^◌, ◌&&◌, ℕ, not, List, [], ◌∷◌, Bool, true, false, if◌then◌else◌, Option, None, Some, refl, sym, ◌∙◌, ap, subst, filter, map, slice_get, take}
+use Rattle.std.proofs.Common.{◌≡◌, ◌==◌, ◌-◌, ◌^◌, ◌&&◌, ℕ, not, List, Bool, true, false, if◌then◌else◌, Option, None, Some, refl, sym, ◌∙◌, ap, subst, filter, map, slice_get, take}
 use Rattle.std.specs.List.{AllByRecursion}
 use Rattle.px_base.specs.declared.hash.Hash.{Hash}
 use Rattle.px_base.specs.declared.ids.TxId.{TxId}
@@ -22,7 +22,7 @@ use Rattle.px_cluster.specs.Ops.{left_by}
 use Rattle.px_cluster.specs.Plan.{all_planned, plan, with_plan}
 use Rattle.px_cluster.specs.Pushes.{begun_at}
 use Rattle.px_cluster.specs.Taking.{Drop, Next, PassOver, Take, Taking, dequeued, dequeued_by, next_job, taken_in}
-use Rattle.cluster_form.specs.Books.{IsDense, storages_in}
+use Rattle.cluster_form.specs.Books.{IsDense}
 use Rattle.cluster_form.specs.Homes.{AreJobsHome, IsHome}
 use Rattle.cluster_form.proofs.Homes.{home_again, home_left}
 use Rattle.cluster_form.proofs.JobLists.{all_numbered}

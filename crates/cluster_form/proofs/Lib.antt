@@ -1,6 +1,7 @@
 mod Lists
 mod OneOf
 mod Places
+mod Uses
 mod Induction
 mod AlikeBooks
 mod ApartPaths
@@ -15,6 +16,7 @@ mod Registries
 mod Panels
 mod TurnLists
 mod TurnsKept
+mod TablesKept
 mod BooksWithin
 mod Among
 mod WithinBooks
@@ -22,4 +24,10 @@ mod WithinLists
 mod WithinRows
 mod Homes
 mod JobsHome
+mod LedgerUses
+mod LedgerKept
+mod PushLists
+mod MembersKept
+mod PushRoutes
+mod JobRoutes
 mod FormKept

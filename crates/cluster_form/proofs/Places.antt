@@ -1,7 +1,7 @@
 -- What stands in a list with one element more, and the places of what passes a test.
-use Rattle.std.proofs.Common.{◌≡◌, ℕ, ◌+◌, zero, suc, List, [], ◌∷◌, ◌++◌, Bool, true, false, if◌then◌else◌, None, Some, refl, sym, ◌∙◌, ap, inl, inr, slice_get, length, arith}
+use Rattle.std.proofs.Common.{◌≡◌, ℕ, ◌+◌, ◌==◌, zero, suc, List, [], ◌∷◌, ◌++◌, Bool, true, false, if◌then◌else◌, None, Some, refl, sym, ◌∙◌, ap, subst, inl, inr, slice_get, length, arith}
 use Rattle.px_cluster.specs.Numbers.{first_of, places_from}
-use Rattle.cluster_form.proofs.Lists.{bool, some_is}
+use Rattle.cluster_form.proofs.Lists.{bool, other_number, same_number, some_is}
 
 -- ---- one element more
 
@@ -22,6 +22,44 @@ got_before [] x y (suc i) other is = absurd (let none : None ≡ Some y = is in 
 got_before (z ∷ zs) x y zero other is = is
 got_before (z ∷ zs) x y (suc i) other is =
     got_before zs x y i (λ same. other (ap suc same)) is
+
+-- one came that is the same as none of those that stood there, where no two were the same
+module _ {A : Type 0} (Same : A → A → Type 0) (back : (a b : A) → Same a b → Same b a)
+    (xs : List A) (new : A)
+    (none : (i : ℕ) (x : A) → slice_get xs i ≡ Some x → Same x new → ⊥) where
+  abbrev AreApart : List A → Type 0
+  AreApart ys = (one other : ℕ) (a b : A) → slice_get ys one ≡ Some a → slice_get ys other ≡ Some b
+      → Same a b → one ≡ other
+
+  is_new : (i : ℕ) (x : A) → slice_get (xs ++ new ∷ []) i ≡ Some x → i ≡ length xs → x ≡ new
+  is_new i x is last =
+      some_is x new (sym is ∙ ap (slice_get (xs ++ new ∷ [])) last ∙ got_last xs new)
+
+  -- one that stood there before is another than the new one
+  another : (i last : ℕ) (a b : A) → slice_get (xs ++ new ∷ []) i ≡ Some a
+      → slice_get (xs ++ new ∷ []) last ≡ Some b → (i ≡ length xs → ⊥) → last ≡ length xs
+      → Same a b → ⊥
+  another i last a b here there before is same =
+      none i a (got_before xs new a i before here)
+      (subst (λ x. Same a x) (is_new last b there is) same)
+
+  pub apart_more : AreApart xs → AreApart (xs ++ new ∷ [])
+  apart_more apart one other a b here there same =
+      elim (bool (one == length xs)) [
+        | inl holds ↦ (let first = same_number one (length xs) holds in
+            elim (bool (other == length xs)) [
+              | inl also ↦ (first ∙ sym (same_number other (length xs) also))
+              | inr fails ↦ absurd (another other one b a there here
+                  (other_number other (length xs) fails) first (back a b same))
+            ])
+        | inr fails ↦ (let first = other_number one (length xs) fails in
+            elim (bool (other == length xs)) [
+              | inl holds ↦ absurd (another one other a b here there first
+                  (same_number other (length xs) holds) same)
+              | inr also ↦ apart one other a b (got_before xs new a one first here)
+                  (got_before xs new b other (other_number other (length xs) also) there) same
+            ])
+      ]
 
 -- ---- the places of what passes a test
 

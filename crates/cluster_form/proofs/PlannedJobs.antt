@@ -47,7 +47,7 @@ pub storages_rise : (storages : List Storage) (book : Repository) → IsDense st
 storages_rise storages book dense =
     subst AreRising (sym dense) (places_rise 0 (is_of book.virt) storages)
 
-all_one : (ns : List ℕ) → AllByRecursion (λ n. is_one_of n ns ≡ true) ns
+pub all_one : (ns : List ℕ) → AllByRecursion (λ n. is_one_of n ns ≡ true) ns
 all_one [] = tt
 all_one (n ∷ ns) = (
   rw (same_self n) refl,

@@ -76,7 +76,7 @@ module _ (storages : List Storage) (storage : Storage) where
 
 -- ---- Begin
 
-first_holds : (first : Option Refusal) (causes : List (Option Refusal))
+pub first_holds : (first : Option Refusal) (causes : List (Option Refusal))
     → first_cause (first ∷ causes) ≡ None → (first ≡ None) × (first_cause causes ≡ None)
 first_holds None causes is = (refl, is)
 first_holds (Some why) causes is = absurd (cc)
@@ -85,7 +85,7 @@ no_turn : (there : Option OpenPush) → turn_taken there ≡ None → there ≡ 
 no_turn None is = refl
 no_turn (Some push) is = absurd (cc)
 
-not_caused : (holds : Bool) (why : Refusal) → cause holds why ≡ None → holds ≡ false
+pub not_caused : (holds : Bool) (why : Refusal) → cause holds why ≡ None → holds ≡ false
 not_caused true why is = absurd (cc)
 not_caused false why is = refl
 

@@ -3,6 +3,11 @@ use Rattle.std.specs.Prelude.{ℕ, List}
 use Rattle.node_calls.specs.ReplicaState.{NodeState}
 use Rattle.px_cluster.specs.Astray.{Move, Moves, MovesOn}
 use Rattle.px_cluster.specs.Cluster.{Cluster, starting_with}
+use Rattle.px_cluster.specs.Core.{Core}
+
+-- what is true of the core
+abbrev pub OfCore : (Core → Type 0) → Cluster → Type 0
+OfCore P cluster = P cluster.core
 
 -- it is still true after any move: an event with its answer, an effect whose answer is lost, or a loss
 -- of pushes that were ready

@@ -1,5 +1,5 @@
 -- Where jobs and leases belong: at a storage of the repository's virtual storage.
-use Rattle.std.specs.Prelude.{◌≡◌, ℕ, true, slice_get, Some}
+use Rattle.std.specs.Prelude.{◌≡◌, ℕ, true, Some}
 use Rattle.std.specs.List.{AllByRecursion}
 use Rattle.px_ops.specs.declared.job.Job.{Job}
 use Rattle.px_cluster.specs.Book.{Repository, storages_of}

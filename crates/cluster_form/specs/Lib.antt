@@ -1,7 +1,10 @@
 pub mod Always
+pub mod Tables
 pub mod Books
 pub mod Jobs
 pub mod Turns
 pub mod Within
 pub mod Homes
+pub mod Drawn
+pub mod Routes
 pub mod Form

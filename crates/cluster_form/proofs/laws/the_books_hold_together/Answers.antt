@@ -1,8 +1,0 @@
-use Rattle.cluster_form.proofs.FormKept.{form_always, form_kept}
-use Rattle.cluster_form.proofs.laws.the_books_hold_together.Goals as goal
-
-pub returns-clause-step : goal.returns-clause-step
-returns-clause-step c = form_kept
-
-pub returns-clause-run : goal.returns-clause-run
-returns-clause-run c = form_always

@@ -69,10 +69,12 @@ fn maybe<N: Display + Drop>(
     alloc: Global,
     read: Option<(Option<N>, &[u8])>,
 ) -> Result<String, AllocError> {
-    match read {
-        Some((Some(number), rest)) => shown(alloc, format!(in alloc; "{number}")?.as_str(), rest),
-        Some((None, rest)) => shown(alloc, "-", rest),
-        None => none(alloc),
+    let Some((number, rest)) = read else {
+        return none(alloc);
+    };
+    match number {
+        Some(number) => shown(alloc, format!(in alloc; "{number}")?.as_str(), rest),
+        None => shown(alloc, "-", rest),
     }
 }
 

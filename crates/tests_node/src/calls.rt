@@ -1,8 +1,7 @@
 //! The calls of a node, as lines of text.
 
 use crate::answers::{self, done, failed, voted};
-use crate::names::hash;
-use crate::words::{lease, push, snapshot};
+use crate::words::{hash, lease, push, snapshot};
 use px_base::{Lease, RepoPath};
 use px_node::Node;
 use std::alloc::Global;
@@ -24,18 +23,6 @@ pub fn answer<N: Node>(alloc: Global, node: &mut N, call: &str) -> Result<String
         }
         _ => Err(Fail::new("no such call")),
     }
-}
-
-/// The answers of a node to calls, a line each.
-pub fn answers<N: Node>(alloc: Global, node: &mut N, calls: &str) -> Result<String, Fail> {
-    let mut told = String::new(alloc);
-    for call in calls.lines() {
-        if !told.is_empty() {
-            told.push_str(", ")?;
-        }
-        told.push_str(answer(alloc, node, call)?.as_str())?;
-    }
-    Ok(told)
 }
 
 /// Fails where a call is answered otherwise than wanted.
@@ -175,21 +162,6 @@ fn snapshot_of<N: Node>(alloc: Global, node: &mut N, repo: &RepoPath) -> Result<
 fn list<N: Node>(alloc: Global, node: &mut N) -> Result<String, Fail> {
     match node.list(alloc) {
         Ok(paths) => answers::paths(alloc, &paths),
-        Err(error) => failed(alloc, &error),
-    }
-}
-
-/// Hands a repository on from one node to another, under a lease.
-pub fn hand_on<M: Node, N: Node>(
-    alloc: Global,
-    from: &mut M,
-    to: &mut N,
-    path: &str,
-    number: &str,
-) -> Result<String, Fail> {
-    let repo = RepoPath::read(alloc, path.as_bytes())?;
-    match from.snapshot(alloc, &repo) {
-        Ok(snapshot) => done(alloc, to.apply(alloc, &repo, lease(number)?, &snapshot)),
         Err(error) => failed(alloc, &error),
     }
 }

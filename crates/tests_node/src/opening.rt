@@ -13,13 +13,12 @@ use std::test::Fail;
 fn play_twice(alloc: Global, before: &str, after: &str) -> Result<(), Fail> {
     let mut node = Shelf::new(alloc, MemKeeper::new(alloc, Vec::new(alloc)));
     play(alloc, &mut node, before)?;
-    play(alloc, &mut opened_again(alloc, node)?, after)
+    play_again(alloc, node.into_keeper(), after)
 }
 
-/// The node that is opened over the rows that a node leaves.
-pub fn opened_again(alloc: Global, node: Shelf<MemKeeper>) -> Result<Shelf<MemKeeper>, Fail> {
-    match Shelf::open(alloc, node.into_keeper()) {
-        Ok(node) => Ok(node),
+fn play_again(alloc: Global, keeper: MemKeeper, table: &str) -> Result<(), Fail> {
+    match Shelf::open(alloc, keeper) {
+        Ok(mut node) => play(alloc, &mut node, table),
         Err(_) => Err(Fail::new("the node was not opened")),
     }
 }
@@ -47,7 +46,7 @@ const KEPT: &str = "\
     commit x.git 2 vote -> fenced 3
     commit x.git 3 vote -> not prepared
     refs x.git -> refs/tags/empty=blob
-    snapshot x.git -> refs/tags/empty=blob and +blob
+    snapshot x.git -> refs/tags/empty=blob and 1
     object x.git tree -> none
     fence x.git 4 -> last 2";
 

@@ -1,6 +1,7 @@
 pub mod Causes
 pub mod FirstPlace
 pub mod Hash
+pub mod Held
 pub mod Line
 pub mod Memory
 pub mod Object

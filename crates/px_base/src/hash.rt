@@ -19,11 +19,15 @@ pub fn is_hex_digit(byte: u8) -> bool
     matches!(byte, b'0'..=b'9' | b'a'..=b'f')
 }
 
-// Whether each byte is such a digit.
+// Whether each byte is such a digit. The loop goes on past one that is none, so that it can take many bytes at once.
 fn has_digits_alone(text: &[u8]) -> bool
     ensures { result ≡ list_all is_hex_digit text.now }
 {
-    text.iter().all(|byte| is_hex_digit(*byte))
+    let mut alone = true;
+    for byte in text {
+        alone &= is_hex_digit(*byte);
+    }
+    alone
 }
 
 impl Hash {

@@ -40,7 +40,7 @@ pub use ref_list::{MAX_REFS, RefList};
 pub use ref_name::RefName;
 pub use repo_path::RepoPath;
 pub use sink::{Sink, WriteEnd, WrittenEnd, write_all};
-pub use source::{ReadEnd, Source};
+pub use source::{HeldEnd, ReadEnd, Source};
 pub use standard::{StdSink, StdSource};
 pub use storage_name::{NameFault, StorageName};
 pub use voter::Voter;

@@ -3,10 +3,10 @@
 ghost use Rattle.std.specs.Prelude.{◌≡◌, ◌≤◌, ℕ};
 ghost use Rattle.px_base.specs.Line.{PieceGives, PieceHasCause, LineGives, LineHasCause};
 
-use crate::{Bytes, ReadEnd, Source};
+use crate::{Bytes, HeldEnd, ReadEnd, Source};
 use std::alloc::Global;
 
-const LF: u8 = b'\n';
+pub(crate) const LF: u8 = b'\n';
 
 /// What reading a line into a buffer came to, where the caller has to know whether its line feed came.
 #[derive(Clone, Copy, Debug, PartialEq, Eq)]
@@ -40,14 +40,22 @@ pub enum LineEnd {
     Memory,
 }
 
-/// Reads a line of at most `max` bytes beside its line feed into a buffer, in place of what was there: a byte at a time, so
-/// that no byte behind the line is taken. The bytes that were read are spent, whatever comes.
+/// Reads a line of at most `max` bytes beside its line feed into a buffer, in place of what was there: out of what the source
+/// holds, and else a byte at a time, so that no byte behind the line is taken. The bytes that were read are spent,
+/// whatever comes.
 pub fn read_piece<S: Source>(source: &mut S, max: usize, bytes: &mut Bytes) -> Piece
     ensures bytes { PieceGives max (S.left source.old) (S.left source.new) bytes.new result }
     ensures cause { PieceHasCause (S.read_faults source.old) (S.read_faults source.new) result }
 {
     bytes.clear();
     loop {
+        match source.take_held(max - bytes.len(), bytes) {
+            HeldEnd::Nothing => {}
+            HeldEnd::Part => continue,
+            HeldEnd::Line => return Piece::Line,
+            HeldEnd::TooLong => return Piece::TooLong,
+            HeldEnd::Memory => return Piece::Memory,
+        }
         let mut byte = [0u8; 1];
         match source.read(&mut byte) {
             ReadEnd::Took(_) => {}

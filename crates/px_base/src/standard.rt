@@ -1,12 +1,26 @@
 //! Sources and sinks over std's readers and writers, as the streams of a process. They tell of the bytes what the
 //! reader or writer tells: one in memory tells all, and those of a process nothing.
 
-ghost use Rattle.std.specs.Prelude.{◌≡◌, IfOk};
+ghost use Rattle.std.specs.Prelude.{◌≡◌, ◌==◌, IfOk};
 ghost use Rattle.std.specs.Io.Buffered.{reader_remaining};
+ghost use Rattle.std.specs.List.{position_or_len};
 
-use crate::{ReadEnd, Sink, Source, WriteEnd};
+use crate::lines::LF;
+use crate::{Bytes, HeldEnd, ReadEnd, Sink, Source, WriteEnd};
 use std::alloc::Global;
-use std::io::{BufReader, Read, Result, Write};
+use std::io::{BufRead, BufReader, Read, Result, Write};
+
+// How many bytes stand before the first line feed, or all.
+fn len_before_feed(bytes: &[u8]) -> usize
+    ensures { result ≡ position_or_len (λ b. b == 10) bytes.now }
+{
+    for (place, byte) in bytes.iter().enumerate() {
+        if *byte == LF {
+            return place;
+        }
+    }
+    bytes.len()
+}
 
 /// A source over a reader, through a buffer. Each error of the reader is a fault, an interrupted read too.
 #[derive(Drop)]
@@ -41,6 +55,27 @@ impl<R: Read + Drop> Source for StdSource<R> {
                 ReadEnd::Failed
             }
         }
+    }
+
+    fn take_held(&mut self, room: usize, line: &mut Bytes) -> HeldEnd {
+        let held = self.inner.buffer();
+        if held.is_empty() {
+            return HeldEnd::Nothing;
+        }
+        let count = len_before_feed(held);
+        if count > room {
+            self.inner.consume(room + 1);
+            return HeldEnd::TooLong;
+        }
+        if line.extend_from_slice(&held[..count]).is_err() {
+            return HeldEnd::Memory;
+        }
+        if count == held.len() {
+            self.inner.consume(count);
+            return HeldEnd::Part;
+        }
+        self.inner.consume(count + 1);
+        HeldEnd::Line
     }
 
     fn read_faults(&self) -> u64 {

@@ -29,9 +29,10 @@ fn read_event(alloc: Global, line: &[u8]) -> Result<Option<Event>, AllocError>
     let Some(first) = words.next() else {
         return Ok(None);
     };
-    match read_vote(alloc, first, &mut words)? {
-        Some(op) => Ok(Some(Event::Operation(op))),
-        None => Ok(None),
+    match read_vote(alloc, first, &mut words) {
+        Ok(Some(op)) => Ok(Some(Event::Operation(op))),
+        Ok(None) => Ok(None),
+        Err(error) => Err(error),
     }
 }
 

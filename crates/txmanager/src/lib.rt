@@ -3,6 +3,7 @@
 #![tactic(auto)]
 
 mod carry;
+mod key;
 mod laws;
 mod manager;
 mod refusal;

@@ -8,6 +8,7 @@ ghost use Rattle.txmanager.specs.VoterCalls.{after_cancel_voter, after_cast, can
 ghost use Rattle.txmanager.specs.Voting.{after_cancel, after_stop, collect_answer, done, outcome_answer, stop_answer, voting_on};
 ghost use Rattle.voters.specs.Panel.{IsPanel};
 
+use crate::key::Key;
 use crate::refusal::{RegisterRefusal, TxRefusal};
 use crate::transaction::Transaction;
 use px_base::{Hash, Phase, StorageName, TxId};
@@ -32,7 +33,7 @@ pub fn are_lawful_rounds(rounds: u32) -> bool
 /// the laws speak of (`call`).
 #[derive(Drop)]
 pub struct Manager {
-    transactions: BTreeMap<u64, Transaction>,
+    transactions: BTreeMap<Key, Transaction>,
 }
 
 impl Model for Manager {
@@ -79,7 +80,7 @@ impl Manager {
         let Ok(transaction) = Transaction::new(alloc, panel, rounds) else {
             return Err(RegisterRefusal::Memory);
         };
-        match self.transactions.insert(tx.0, transaction) {
+        match self.transactions.insert(Key::of(tx), transaction) {
             Ok(_) => Ok(()),
             Err(_) => Err(RegisterRefusal::Memory),
         }
@@ -103,7 +104,7 @@ impl Manager {
         ensures same { OnErr result (self.new ≡ self.old) }
         ensures call { self.new ≡ called self.old (Call.Cast tx voter.now phase hash.now) }
     {
-        match self.transactions.get_mut(&tx.0) {
+        match self.transactions.get_mut(&Key::of(tx)) {
             Some(transaction) => transaction.cast(voter, phase, hash),
             None => Err(TxRefusal::UnknownTx(tx)),
         }
@@ -119,7 +120,7 @@ impl Manager {
         ensures same { OnErr result (self.new ≡ self.old) }
         ensures call { self.new ≡ called self.old (Call.CancelVoter tx voter.now) }
     {
-        match self.transactions.get_mut(&tx.0) {
+        match self.transactions.get_mut(&Key::of(tx)) {
             Some(transaction) => transaction.cancel_voter(voter),
             None => Err(TxRefusal::UnknownTx(tx)),
         }
@@ -133,7 +134,7 @@ impl Manager {
         ensures same { OnErr result (self.new ≡ self.old) }
         ensures call { self.new ≡ called self.old (Call.Cancel tx) }
     {
-        match self.transactions.get_mut(&tx.0) {
+        match self.transactions.get_mut(&Key::of(tx)) {
             Some(transaction) => {
                 transaction.cancel();
                 Ok(())
@@ -149,7 +150,7 @@ impl Manager {
         ensures same { OnErr result (self.new ≡ self.old) }
         ensures call { self.new ≡ called self.old (Call.Stop tx) }
     {
-        match self.transactions.get_mut(&tx.0) {
+        match self.transactions.get_mut(&Key::of(tx)) {
             Some(transaction) => transaction.stop(),
             None => Err(TxRefusal::UnknownTx(tx)),
         }
@@ -161,7 +162,7 @@ impl Manager {
         ensures { result ≡ answer_at (transaction_at self.now tx) tx
             (collect_answer voter.now sub) }
     {
-        match self.transactions.get(&tx.0) {
+        match self.transactions.get(&Key::of(tx)) {
             Some(transaction) => transaction.collect(voter, sub),
             None => Err(TxRefusal::UnknownTx(tx)),
         }
@@ -171,7 +172,7 @@ impl Manager {
     pub fn outcome(&self, tx: TxId, sub: u32) -> Result<Outcome, TxRefusal>
         ensures { result ≡ answer_at (transaction_at self.now tx) tx (outcome_answer sub) }
     {
-        match self.transactions.get(&tx.0) {
+        match self.transactions.get(&Key::of(tx)) {
             Some(transaction) => transaction.outcome(sub),
             None => Err(TxRefusal::UnknownTx(tx)),
         }
@@ -184,7 +185,7 @@ impl Manager {
         ensures same { OnErr result (self.new ≡ self.old) }
         ensures call { self.new ≡ called self.old (Call.Close tx) }
     {
-        match self.transactions.remove(&tx.0) {
+        match self.transactions.remove(&Key::of(tx)) {
             Some(_) => Ok(()),
             None => Err(TxRefusal::UnknownTx(tx)),
         }

@@ -23,7 +23,7 @@ may_be_done place (Some ready) are =
 -- once it is done, there is none, and the references are those that it leaves
 pub done_ready : (held : Bool) (refs after_ : References) (objects objects' : Entries)
     (fence fence' : ℕ) (was now : Option Ready) (ready : Ready) → held ≡ true → was ≡ Some ready
-    → now ≡ None → after_ ≡ after refs ready.push.updates → AreReady refs objects fence was
+    → now ≡ None → after_ ≡ after refs ready.updates → AreReady refs objects fence was
     → NameHashes refs
     → AreReady after_ objects' fence' now × IsEmptyUnless held after_ objects' now
     × NameHashes after_
@@ -33,8 +33,8 @@ done_ready held refs after_ objects objects' fence fence' was now ready is_held 
       subst (AreReady after_ objects' fence') (sym none) tt,
       subst (λ (h : Bool). IsEmptyUnless h after_ objects' now) (sym is_held) tt,
       subst NameHashes (sym left)
-          (NameHashes-after refs ready.push.updates one.list.ordered names
-          (given_hash ready.push.updates one.ids)),
+          (NameHashes-after refs ready.updates one.list.ordered names
+          (given_hash ready.updates one.ids)),
     )
 
 no_push : (ready : Option Ready) → push_of ready ≡ None → ready ≡ None

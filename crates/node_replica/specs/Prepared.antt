@@ -16,6 +16,10 @@ IsMissing objects tips (Refused r) = Lacks objects tips r
 IsMissing objects tips Memory = Unit {0}
 IsMissing objects tips Fault = ⊥
 
+-- the push that is ready
+abbrev pub push_in : Ready → Push
+push_in ready = record { updates = ready.updates; objects = ready.objects }
+
 -- the push may be ready at the place, which is held, once the fence there is its lease
 pub record IsReadyAt (ready : Ready) (place : ReplicaState) : Type 0 where
   pub held : place.held ≡ true
@@ -27,7 +31,7 @@ pub record IsPrepared (lease : ℕ) (push : Push) (place : ReplicaState) (ready 
   pub accepted : prepare_refusal lease push place ≡ None
   pub closed : IsClosed (with_coming place push.objects) (new_tips push.updates)
   pub lease_is : ready.lease ≡ lease
-  pub push_is : ready.push ≡ push
+  pub push_is : push_in ready ≡ push
   pub at : IsReadyAt ready place
 
 -- it is refused, or memory wants

@@ -14,18 +14,18 @@ abbrev pub push_of : Option Ready → Option ReadyPush
 push_of None = None
 push_of (Some ready) = Some (record {
   lease = ready.lease;
-  updates = ready.push.updates;
-  objects = ready.push.objects;
+  updates = ready.updates;
+  objects = ready.objects;
 })
 
 -- the references are what a repository may have; a ready push has its vote, its updates may be done and
 -- are such as their type keeps them, its objects may come, and its lease is the fence
 pub record IsReady (refs : References) (objects : Entries) (fence : ℕ) (ready : Ready) : Type 0 where
-  pub vote : ready.vote ≡ vote_on ready.push.updates
+  pub vote : ready.vote ≡ vote_on ready.updates
   pub list : IsRefList refs
-  pub fits : Fits ready.push.updates refs
-  pub ids : AreUpdates ready.push.updates
-  pub comes : bundle_fault objects 0 ready.push.objects ≡ None
+  pub fits : Fits ready.updates refs
+  pub ids : AreUpdates ready.updates
+  pub comes : bundle_fault objects 0 ready.objects ≡ None
   pub lease : ready.lease ≡ fence
 
 abbrev pub AreReady : References → Entries → ℕ → Option Ready → Type 0

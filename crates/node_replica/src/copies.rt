@@ -1,4 +1,4 @@
-//! Copies of what a push brings, and the objects that it gives to names.
+//! A copy of what a push changes, and the objects that it gives to names.
 
 ghost use Rattle.std.specs.Prelude.{◌≡◌, IfOk, OnOk};
 ghost use Rattle.std.specs.List.{AllByRecursion};
@@ -7,23 +7,15 @@ ghost use Rattle.px_base.specs.Hash.{IsHash};
 ghost use Rattle.node_calls.specs.Calls.{new_tips};
 ghost use Rattle.px_base.specs.Update.{AreUpdates};
 
-use px_base::{Ids, Object, ObjectId, Objects, Push, RefName, Update, Updates, are_updates};
+use px_base::{Ids, ObjectId, RefName, Update, Updates, are_updates};
 use std::alloc::{AllocError, Global};
 
-/// A copy of the push.
-pub(crate) fn copied_push(alloc: Global, push: &Push) -> Result<Push, AllocError>
-    ensures value { IfOk result (λ copied. copied ≡ push.now) }
-    ensures ids { OnOk result (AreUpdates push.now.updates) }
+/// A copy of the updates.
+pub(crate) fn copied_updates(alloc: Global, updates: &[Update]) -> Result<Updates, AllocError>
+    ensures value { IfOk result (λ copied. copied ≡ updates.now) }
+    ensures ids { OnOk result (AreUpdates updates.now) }
 {
-    are_updates(push.updates.as_slice());
-    let updates = copied_updates(alloc, push.updates.as_slice())?;
-    let objects = copied_objects(alloc, push.objects.as_slice())?;
-    Ok(Push { updates, objects })
-}
-
-fn copied_updates(alloc: Global, updates: &[Update]) -> Result<Updates, AllocError>
-    ensures { IfOk result (λ copied. copied ≡ updates.now) }
-{
+    are_updates(updates);
     let mut copied = Updates::new(alloc);
     for update in updates {
         copied.push(Update {
@@ -31,16 +23,6 @@ fn copied_updates(alloc: Global, updates: &[Update]) -> Result<Updates, AllocErr
             new: update.new,
             name: update.name.copy(alloc)?,
         })?;
-    }
-    Ok(copied)
-}
-
-fn copied_objects(alloc: Global, objects: &[Object]) -> Result<Objects, AllocError>
-    ensures { IfOk result (λ copied. copied ≡ objects.now) }
-{
-    let mut copied = Objects::new(alloc);
-    for object in objects {
-        copied.push(object.copy(alloc)?)?;
     }
     Ok(copied)
 }

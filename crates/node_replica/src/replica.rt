@@ -2,6 +2,7 @@
 
 ghost use Rattle.std.specs.Prelude.{◌≡◌, ◌<◌, Err, ◌+◌, ◌≤◌, [], IfOk, IfErr, OnOk, OnErr, IsSome, IfSome, None, Some, true, false};
 ghost use Rattle.node_calls.specs.Calls.{aborted, abort_refusal, apply_refusal, commit_refusal, created, create_refusal, fenced, new_tips, not_held, prepared, ready_under, removed, with_coming};
+ghost use Rattle.node_calls.specs.Refusals.{of_bundle};
 ghost use Rattle.node_replica.specs.Checks.{IsNoRefusal, Reads, Tests};
 ghost use Rattle.node_calls.specs.Reads.{HasObject, HasRefs, IsSnapshot};
 ghost use Rattle.node_calls.specs.Lawful.{IsLawfulReplica};
@@ -20,15 +21,15 @@ ghost use Rattle.std.specs.Map.{values_of};
 ghost use Rattle.px_base.specs.RefList.{IsRefList};
 ghost use Rattle.px_base.specs.RepoPath.{IsRepoPath};
 ghost use Rattle.objstore.specs.Bundle.{bundle_fault, with_object};
-ghost use Rattle.node_replica.specs.Prepared.{IsMissing, IsNotPrepared, IsPrepared, IsReadyAt};
+ghost use Rattle.node_replica.specs.Prepared.{IsMissing, IsNotPrepared, IsPrepared, IsReadyAt, push_in};
 
-use crate::copies::{copied_push, named_by, tips_of};
+use crate::copies::{copied_updates, named_by, tips_of};
 use crate::kept::{keep_push, keep_with};
 use crate::refused::{objects_refused, updates_refused};
 use node_calls::{NodeError, NodeRefusal, Snapshot};
 use node_rows::{ReplicaRow, add_objects, add_push, add_refs, begun, remove_objects};
-use objstore::{ClosedFault, Put, PutFault, Store, bundle};
-use px_base::{Hash, Lease, Object, ObjectId, Push, RefList, RefName, RepoPath, Update};
+use objstore::{ClosedFault, Put, PutFault, Quarantine, Store};
+use px_base::{Hash, Lease, Object, ObjectId, Push, RefList, RefName, RepoPath, Update, Updates};
 use px_keeper::{Batch, Keeper, NotTaken};
 use refstore::{RefRefusal, Refs, vote_of};
 use std::alloc::{AllocError, Global};
@@ -39,9 +40,11 @@ use std::marker::Model;
 pub struct Ready {
     /// The lease that it came under.
     pub lease: Lease,
-    /// The push.
-    pub push: Push,
-    /// Its vote.
+    /// What is to be changed.
+    pub updates: Updates,
+    /// The objects that came with it.
+    pub objects: Quarantine,
+    /// The vote on the updates.
     pub vote: Hash,
 }
 
@@ -210,17 +213,31 @@ impl Replica {
     {
         self.admits(lease)?;
         self.is_held()?;
-        let extra = match bundle(alloc, &self.objects, push.objects.as_slice()) {
-            Ok(extra) => extra,
-            Err(fault) => return Err(objects_refused(fault)),
-        };
+        let objects = self.quarantined(alloc, push.objects.as_slice())?;
         if let Err(refusal) = self.refs.check(alloc, push.updates.as_slice()) {
             return Err(updates_refused(refusal));
         }
-        self.has_new(alloc, push.updates.as_slice(), &extra)?;
+        self.has_new(alloc, push.updates.as_slice(), objects.store())?;
         let vote = vote_of(push.updates.as_slice());
-        let push = copied_push(alloc, push)?;
-        Ok(Ready { lease, push, vote })
+        let updates = copied_updates(alloc, push.updates.as_slice())?;
+        Ok(Ready {
+            lease,
+            updates,
+            objects,
+            vote,
+        })
+    }
+
+    // The objects in quarantine, where they may come here.
+    fn quarantined(&self, alloc: Global, objects: &[Object]) -> Result<Quarantine, NodeError>
+        ensures ok { IfOk result (λ kept. kept ≡ objects.now) }
+        ensures refusal { Tests (of_bundle (bundle_fault self.now.objects 0 objects.now)) result }
+        ensures accepted { OnOk result (bundle_fault self.now.objects 0 objects.now ≡ None) }
+    {
+        match Quarantine::of(alloc, &self.objects, objects) {
+            Ok(kept) => Ok(kept),
+            Err(fault) => Err(objects_refused(fault)),
+        }
     }
 
     // Whether all that is reachable from the tips is here or among these objects.
@@ -250,7 +267,7 @@ impl Replica {
     /// Makes a push ready, and drops any other one.
     pub fn prepare(&mut self, ready: Ready)
         requires { IsReadyAt ready self.old }
-        ensures { self.new ≡ prepared ready.lease ready.push self.old }
+        ensures { self.new ≡ prepared ready.lease (push_in ready) self.old }
     {
         self.fence = ready.lease.number();
         self.ready = Some(ready);
@@ -324,26 +341,28 @@ impl Replica {
         &mut self,
         alloc: Global,
         keeper: &mut K,
-        batch: &Batch,
+        batch: Batch,
         lease: Lease,
     ) -> Result<Hash, NodeError>
         requires above { self.old.fence ≤ lease }
         requires held { self.old.held ≡ true }
         requires ready { IsSome (ready_under lease self.old.ready) }
         ensures ok { IfOk result (DoesReady lease self.old self.new) }
-        ensures kept { OnOk result (Keeps batch.now (K.rows keeper.old) (K.rows keeper.new)) }
+        ensures kept { OnOk result (Keeps batch (K.rows keeper.old) (K.rows keeper.new)) }
         ensures err { OnErr result (self.new ≡ self.old) }
         ensures err_rows { OnErr result (K.rows keeper.new ≡ K.rows keeper.old) }
         ensures known { IfErr result IsNoRefusal }
         ensures cause { NodeHasCause (K.keep_faults keeper.old) (K.keep_faults keeper.new) result }
     {
-        let Some(ready) = self.ready.take() else {
+        let Some(mut ready) = self.ready.take() else {
             // A push is ready, as the caller knows.
             return Err(NodeError::Memory);
         };
+        let updates = ready.updates.as_slice();
+        let coming = &mut ready.objects;
         let refs = &mut self.refs;
-        let objects = &mut self.objects;
-        if let Err(error) = keep_push(alloc, keeper, batch, refs, objects, &ready.push) {
+        let store = &mut self.objects;
+        if let Err(error) = keep_push(alloc, keeper, batch, refs, store, updates, coming) {
             self.ready = Some(ready);
             return Err(error);
         }
@@ -353,7 +372,7 @@ impl Replica {
         Ok(vote)
     }
 
-    /// The references of a snapshot, where it may be applied.
+    /// The references of a snapshot, and its objects in quarantine, where it may be applied.
     ///
     /// Refused with the first that holds: `Fenced`; `BadObject` or `Collision`, for an object of the
     /// snapshot; `Missing`, for the first object that its references lead to, and that neither has.
@@ -363,8 +382,9 @@ impl Replica {
         alloc: Global,
         lease: Lease,
         snapshot: &Snapshot,
-    ) -> Result<Refs, NodeError>
-        ensures ok { IfOk result (λ refs. refs ≡ snapshot.now.refs) }
+    ) -> Result<(Refs, Quarantine), NodeError>
+        ensures ok { IfOk result (λ taken. taken.0 ≡ snapshot.now.refs) }
+        ensures objects { IfOk result (λ taken. taken.1 ≡ snapshot.now.objects) }
         ensures accepted { OnOk result (apply_refusal lease snapshot.now self.now ≡ None) }
         ensures comes { OnOk result
             (bundle_fault self.now.objects 0 snapshot.now.objects ≡ None) }
@@ -375,13 +395,11 @@ impl Replica {
         ensures err { IfErr result (IsNotApplied lease snapshot.now self.now) }
     {
         self.admits(lease)?;
-        let extra = match bundle(alloc, &self.objects, snapshot.objects.as_slice()) {
-            Ok(extra) => extra,
-            Err(fault) => return Err(objects_refused(fault)),
-        };
+        let objects = self.quarantined(alloc, snapshot.objects.as_slice())?;
         let tips = named_by(alloc, snapshot.refs.as_slice())?;
-        self.has_all(alloc, tips.as_slice(), &extra)?;
-        Ok(Refs::of_list(alloc, &snapshot.refs)?)
+        self.has_all(alloc, tips.as_slice(), objects.store())?;
+        let refs = Refs::of_list(alloc, &snapshot.refs)?;
+        Ok((refs, objects))
     }
 
     /// Takes the references and the objects of a snapshot, once the keeper has kept the rows that this
@@ -391,23 +409,23 @@ impl Replica {
         &mut self,
         alloc: Global,
         keeper: &mut K,
-        batch: &Batch,
+        batch: Batch,
         lease: Lease,
         refs: Refs,
-        objects: &[Object],
+        mut objects: Quarantine,
     ) -> Result<(), NodeError>
         requires above { self.old.fence ≤ lease }
-        requires comes { bundle_fault self.old.objects 0 objects.now ≡ None }
+        requires comes { bundle_fault self.old.objects 0 objects ≡ None }
         requires ids { NameHashes refs }
-        ensures ok { OnOk result (self.new ≡ taken_over lease refs objects.now self.old) }
-        ensures kept { OnOk result (Keeps batch.now (K.rows keeper.old) (K.rows keeper.new)) }
+        ensures ok { OnOk result (self.new ≡ taken_over lease refs objects self.old) }
+        ensures kept { OnOk result (Keeps batch (K.rows keeper.old) (K.rows keeper.new)) }
         ensures err { OnErr result (self.new ≡ self.old) }
         ensures err_rows { OnErr result (K.rows keeper.new ≡ K.rows keeper.old) }
         ensures known { IfErr result IsNoRefusal }
         ensures cause { NodeHasCause (K.keep_faults keeper.old) (K.keep_faults keeper.new) result }
     {
         let ready = self.ready.take();
-        if let Err(error) = keep_with(alloc, keeper, batch, &mut self.objects, objects) {
+        if let Err(error) = keep_with(alloc, keeper, batch, &mut self.objects, &mut objects) {
             self.ready = ready;
             return Err(error);
         }
@@ -515,7 +533,15 @@ impl Replica {
     {
         let mut batch = begun(alloc, repo, lease.number() + 1, Some(lease), true)?;
         if let Some(ready) = &self.ready {
-            add_push(alloc, &mut batch, repo, &self.objects, &ready.push)?;
+            let updates = ready.updates.as_slice();
+            add_push(
+                alloc,
+                &mut batch,
+                repo,
+                &self.objects,
+                updates,
+                &ready.objects,
+            )?;
         }
         Ok(batch)
     }
@@ -527,7 +553,7 @@ impl Replica {
         repo: &RepoPath,
         lease: Lease,
         refs: &Refs,
-        objects: &[Object],
+        objects: &Quarantine,
     ) -> Result<Batch, AllocError>
         ensures batch { IfOk result
             (λ batch. batch ≡ applied_rows repo.now lease refs.now objects.now self.now) }

@@ -1,5 +1,6 @@
 pub mod Alike
 pub mod Before
+mod ComingRows
 pub mod FirstBad
 pub mod GoodRows
 pub mod GoodStand

@@ -3,14 +3,15 @@
 ghost use Rattle.std.specs.Prelude.{◌≡◌, ◌∷◌, ◌++◌, [], Some, None, IfOk, OnOk};
 ghost use Rattle.std.specs.Map.{keys_of};
 ghost use Rattle.node_rows.specs.Rows.{under};
+ghost use Rattle.objstore.specs.Entries.{own_name};
 ghost use Rattle.node_rows.specs.Writes.{coming_changes, object_change, objects_gone, ref_change, refs_changes, gone_changes, put_changes, names, replica_change, update_changes};
 ghost use Rattle.px_base.specs.RefList.{ref_at};
 ghost use Rattle.px_base.specs.RepoPath.{IsRepoPath};
 
-use objstore::Store;
-use px_base::{Bytes, Lease, Object, ObjectId, Push, RefName, RepoPath, Update};
+use objstore::{Quarantine, Store};
+use px_base::{Bytes, Lease, Object, ObjectId, RefName, RepoPath, Update};
 use px_fields::{add_flag, add_kind, add_optional_u64, add_u64};
-use px_keeper::Batch;
+use px_keeper::{Batch, RowKey};
 use refstore::Refs;
 use std::alloc::{AllocError, Global};
 
@@ -84,20 +85,25 @@ fn remove_ref(
     batch.remove(alloc, REFS, key.as_slice())
 }
 
+// Puts an object under its name. Its content is copied once.
 fn put_object(
     alloc: Global,
     batch: &mut Batch,
     repo: &RepoPath,
+    id: ObjectId,
     object: &Object,
 ) -> Result<(), AllocError>
+    requires { id ≡ own_name object.now }
     ensures { OnOk result (batch.new ≡ batch.old ++ object_change repo.now object.now ∷ []) }
 {
-    let id = objstore::name_of(object.kind(), object.content());
-    let key = key_of(alloc, repo, &id.0)?;
+    let row = RowKey {
+        table: OBJECTS,
+        key: key_of(alloc, repo, &id.0)?,
+    };
     let mut value = Bytes::new(alloc);
     add_kind(&mut value, object.kind())?;
     value.extend_from_slice(object.content())?;
-    batch.put(alloc, OBJECTS, key.as_slice(), value.as_slice())
+    batch.put_row(row, value)
 }
 
 // Adds what an update changes.
@@ -134,39 +140,58 @@ fn add_updates(
     Ok(())
 }
 
-/// Adds the objects that the store does not have.
+/// Adds the objects in quarantine that the store does not have.
 pub fn add_objects(
     alloc: Global,
     batch: &mut Batch,
     repo: &RepoPath,
     store: &Store,
-    objects: &[Object],
+    objects: &Quarantine,
 ) -> Result<(), AllocError>
     ensures { OnOk result
         (batch.new ≡ batch.old ++ coming_changes repo.now store.now objects.now) }
 {
-    for object in objects {
-        let id = objstore::name_of(object.kind(), object.content());
-        if store.get(&id).is_none() {
-            put_object(alloc, batch, repo, object)?;
+    for at in 0..objects.len() {
+        if let Some((id, object)) = objects.get(at) {
+            add_object(alloc, batch, repo, store, id, object)?;
         }
     }
     Ok(())
 }
 
-/// Adds what a push changes.
+// Adds an object that the store does not have, under its name.
+fn add_object(
+    alloc: Global,
+    batch: &mut Batch,
+    repo: &RepoPath,
+    store: &Store,
+    id: ObjectId,
+    object: &Object,
+) -> Result<(), AllocError>
+    requires { id ≡ own_name object.now }
+    ensures { OnOk result
+        (batch.new ≡ batch.old ++ coming_changes repo.now store.now (object.now ∷ [])) }
+{
+    if store.get(&id).is_none() {
+        put_object(alloc, batch, repo, id, object)?;
+    }
+    Ok(())
+}
+
+/// Adds what a push with these updates and these objects changes.
 pub fn add_push(
     alloc: Global,
     batch: &mut Batch,
     repo: &RepoPath,
     store: &Store,
-    push: &Push,
+    updates: &[Update],
+    objects: &Quarantine,
 ) -> Result<(), AllocError>
-    ensures { OnOk result (batch.new ≡ batch.old ++ update_changes repo.now push.now.updates
-        ++ coming_changes repo.now store.now push.now.objects) }
+    ensures { OnOk result (batch.new ≡ batch.old ++ update_changes repo.now updates.now
+        ++ coming_changes repo.now store.now objects.now) }
 {
-    add_updates(alloc, batch, repo, push.updates.as_slice())?;
-    add_objects(alloc, batch, repo, store, push.objects.as_slice())
+    add_updates(alloc, batch, repo, updates)?;
+    add_objects(alloc, batch, repo, store, objects)
 }
 
 /// Adds what changes where some references take the place of others.

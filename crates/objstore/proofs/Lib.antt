@@ -6,6 +6,7 @@ pub mod Comes
 pub mod EntriesLemmas
 pub mod FirstLemmas
 pub mod Ids
+mod Moved
 pub mod Places
 mod PutLemmas
 mod QueueLemmas

@@ -1,7 +1,9 @@
 pub mod Bundle
 pub mod Entries
 pub mod Missing
+pub mod ObjectMap
 pub mod Put
+pub mod Quarantine
 pub mod Queue
 pub mod Reach
 pub mod Reached

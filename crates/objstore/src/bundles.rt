@@ -3,7 +3,7 @@
 ghost use Rattle.std.specs.Prelude.{◌≡◌, ◌⊎◌, ◌++◌, [], ◌∷◌, None, Some, IfOk, IfErr, OnOk, OnErr};
 ghost use Rattle.std.specs.BTreeMap.{insert_entry};
 ghost use Rattle.px_base.specs.Hash.{hash_cmp};
-ghost use Rattle.objstore.specs.Entries.{IsStore};
+ghost use Rattle.objstore.specs.Entries.{IsStore, own_name};
 ghost use Rattle.objstore.specs.Bundle.{added, bundle_fault, object_fault, with_object, with_objects, without};
 
 use crate::store::Store;
@@ -58,16 +58,17 @@ pub fn bundle(alloc: Global, store: &Store, objects: &[Object]) -> Result<Store,
     Ok(extra)
 }
 
-// Puts a copy of the object at that index of a list to the earlier ones, where it may come to the
-// store with these in it.
-fn bring(
+/// Puts a copy of the object at that index of a list to the earlier ones, where it may come to the
+/// store with these in it, and gives its name.
+pub(crate) fn bring(
     alloc: Global,
     store: &Store,
     extra: &mut Store,
     index: usize,
     object: &Object,
-) -> Result<(), BundleFault>
+) -> Result<ObjectId, BundleFault>
     ensures ok { OnOk result (extra.new ≡ with_object extra.old object.now) }
+    ensures value { IfOk result (λ id. id ≡ own_name object.now) }
     ensures accepted { OnOk result (object_fault (store.now ++ extra.old) index object.now ≡ None) }
     ensures refused { IfErr result (λ e. (e ≡ BundleFault.Memory)
         ⊎ (object_fault (store.now ++ extra.old) index object.now ≡ Some e)) }
@@ -82,7 +83,7 @@ fn bring(
         }
     }
     extra.set(alloc, id, object)?;
-    Ok(())
+    Ok(id)
 }
 
 impl Store {

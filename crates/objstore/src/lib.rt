@@ -4,6 +4,8 @@
 
 mod bundles;
 mod laws;
+mod object_map;
+mod quarantine;
 mod queue;
 mod reached;
 mod store;
@@ -14,4 +16,6 @@ pub use laws::{
     what_is_reached_is_one_list, what_was_added_can_be_taken_back,
 };
 pub use object_format::{LinkFault, links, name_of};
+pub use object_map::ObjectMap;
+pub use quarantine::Quarantine;
 pub use store::{ClosedFault, Put, PutFault, Store};

@@ -14,6 +14,7 @@ ghost use Rattle.objstore.specs.Reach.{IsClosed, links_in};
 ghost use Rattle.objstore.specs.Walk.{all_queued};
 ghost use Rattle.objstore.specs.Missing.{IsMissed};
 
+use crate::object_map::ObjectMap;
 use crate::queue::Queue;
 use object_format::{check, links, name_of};
 use px_base::{Ids, Object, ObjectId};
@@ -102,6 +103,28 @@ impl Store {
     {
         Store {
             objects: BTreeMap::new(alloc),
+        }
+    }
+
+    /// The objects as a map, in which any may stand under any id.
+    pub fn into_map(self) -> ObjectMap
+        ensures map { result ≡ self }
+        ensures store { IsStore self }
+        ensures small { AreSmall self }
+    {
+        ObjectMap {
+            objects: self.objects,
+        }
+    }
+
+    /// The store of a map in which each object stands under its name.
+    pub fn of_map(map: ObjectMap) -> Store
+        requires store { IsStore map }
+        requires small { AreSmall map }
+        ensures { result ≡ map }
+    {
+        Store {
+            objects: map.objects,
         }
     }
 

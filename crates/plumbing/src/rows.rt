@@ -57,7 +57,7 @@ fn put_map<S: Source>(alloc: Global, input: &mut S, batch: &mut Batch) -> Result
 }
 
 // A keeper in memory of these rows.
-fn keeper_of(alloc: Global, batch: &Batch) -> Result<MemKeeper, End> {
+fn keeper_of(alloc: Global, batch: Batch) -> Result<MemKeeper, End> {
     let mut keeper = MemKeeper::new(alloc, Vec::new(alloc));
     match keeper.commit(batch) {
         Ok(()) => Ok(keeper),
@@ -67,7 +67,7 @@ fn keeper_of(alloc: Global, batch: &Batch) -> Result<MemKeeper, End> {
 }
 
 // The line of a map.
-fn line_of(alloc: Global, batch: &Batch) -> Result<String, End> {
+fn line_of(alloc: Global, batch: Batch) -> Result<String, End> {
     let keeper = keeper_of(alloc, batch)?;
     match Shelf::open(alloc, keeper) {
         Ok(_) => Ok(String::from_str(alloc, "ok\n")?),
@@ -86,7 +86,7 @@ pub fn rows<S: Source, O: Sink>(alloc: Global, input: &mut S, out: &mut O) -> Re
         let mut batch = Batch::new(alloc);
         let more = put_map(alloc, input, &mut batch)?;
         if more || !batch.is_empty() {
-            print(out, line_of(alloc, &batch)?.as_bytes())?;
+            print(out, line_of(alloc, batch)?.as_bytes())?;
         }
         if !more {
             return Ok(());

@@ -1,6 +1,6 @@
 -- Rows that are all good can be read to their end, where what has been read can always take over one
 -- good row more.
-use Rattle.std.proofs.Common.{◌≡◌, ◌==◌, ◌<◌, ◌≤◌, ℕ, List, [], ◌∷◌, true, false, cond, Bool, Option, Some, None, refl, sym, ◌∙◌, subst, ◌⊎◌, ⊎_elim, inr, arith}
+use Rattle.std.proofs.Common.{◌≡◌, ◌==◌, ◌<◌, ◌≤◌, ℕ, List, [], ◌∷◌, true, false, cond, Bool, Option, Some, None, refl, sym, ◌∙◌, subst, ⊎_elim, inr, arith}
 use Rattle.std.proofs.Math.Path.{fun_ext}
 use Rattle.std.specs.FinMap.{entries, entries_sorted, get, get-entries}
 use Rattle.std.specs.FinMap.Entries.{find}

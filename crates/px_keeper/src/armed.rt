@@ -62,7 +62,7 @@ impl Keeper for ArmedKeeper {
         self.keeper.scan(alloc, table, after)
     }
 
-    fn commit(&mut self, batch: &Batch) -> Result<(), KeepFault> {
+    fn commit(&mut self, batch: Batch) -> Result<(), KeepFault> {
         if self.armed {
             self.armed = false;
             self.faults = self.faults.saturating_add(1);

@@ -67,10 +67,11 @@ pub trait Keeper {
         ensures sure { IsSome (commit_fails self.old) → result ≢ Err KeepFault.Failed }
         ensures cause { KeepHasCause (keep_faults self.old) (keep_faults self.new) result };
 
-    /// Makes the changes of a batch, one after the other. An error leaves the rows as they were.
-    fn commit(&mut self, batch: &Batch) -> Result<(), KeepFault>
+    /// Makes the changes of a batch, one after the other, and takes it in. An error leaves the rows as
+    /// they were.
+    fn commit(&mut self, batch: Batch) -> Result<(), KeepFault>
         ensures ok { OnOk result (rows self.new
-            ≡ option_map (λ kept. applied kept batch.now) (rows self.old)) }
+            ≡ option_map (λ kept. applied kept batch) (rows self.old)) }
         ensures err { OnErr result (rows self.new ≡ rows self.old) }
         ensures plan { KeepsPlan (commit_fails self.old) (commit_fails self.new) result }
         ensures cause { KeepHasCause (keep_faults self.old) (keep_faults self.new) result };

@@ -45,7 +45,7 @@ impl Keeper for SureKeeper {
         self.keeper.scan(alloc, table, after)
     }
 
-    fn commit(&mut self, batch: &Batch) -> Result<(), KeepFault> {
+    fn commit(&mut self, batch: Batch) -> Result<(), KeepFault> {
         self.keeper.commit(batch)
     }
 

@@ -9,14 +9,15 @@ ghost use Rattle.node_replica.specs.Checks.{IsNoRefusal};
 ghost use Rattle.node_replica.specs.Effects.{CommitsAt, taken_over};
 ghost use Rattle.node_calls.specs.Ends.{ArePaths, NodeHasCause};
 ghost use Rattle.node_calls.specs.ReplicaState.{Changes, Same, nothing, raised};
-ghost use Rattle.node_replica.specs.Prepared.{IsReadyAt};
+ghost use Rattle.node_replica.specs.Prepared.{IsReadyAt, push_in};
 ghost use Rattle.node_replica.specs.Hashes.{NameHashes};
 ghost use Rattle.px_node.specs.Shelf.{AreLawful, Puts, place_at};
 ghost use Rattle.node_replica.specs.Kept.{Keeps};
 
 use node_calls::NodeError;
 use node_replica::{Ready, Replica, keep};
-use px_base::{Hash, Lease, Object, PathList, RepoPath};
+use objstore::Quarantine;
+use px_base::{Hash, Lease, PathList, RepoPath};
 use px_keeper::{Batch, Keeper};
 use refstore::Refs;
 use std::alloc::{AllocError, Global};
@@ -105,13 +106,13 @@ pub(crate) fn keep_rows<K: Keeper>(
     alloc: Global,
     replicas: &mut Replicas,
     keeper: &mut K,
-    batch: &Batch,
+    batch: Batch,
     repo: &RepoPath,
 ) -> Result<(), NodeError>
     ensures room { OnOk result (IsSome (lookup (is_name repo.now) replicas.new.entries)) }
     ensures same { Same (place_at replicas.old.entries) (place_at replicas.new.entries) }
     ensures lawful { AreLawful replicas.old.entries → AreLawful replicas.new.entries }
-    ensures kept { OnOk result (Keeps batch.now (K.rows keeper.old) (K.rows keeper.new)) }
+    ensures kept { OnOk result (Keeps batch (K.rows keeper.old) (K.rows keeper.new)) }
     ensures err_rows { OnErr result (K.rows keeper.new ≡ K.rows keeper.old) }
     ensures known { IfErr result IsNoRefusal }
     ensures cause { NodeHasCause (K.keep_faults keeper.old) (K.keep_faults keeper.new) result }
@@ -180,7 +181,7 @@ pub(crate) fn prepare(replicas: &mut Replicas, repo: &RepoPath, ready: Ready)
     requires room { IsSome (lookup (is_name repo.now) replicas.old.entries) }
     requires ready { IsReadyAt ready (place_at replicas.old.entries repo.now) }
     ensures changes { Changes (place_at replicas.old.entries) (place_at replicas.new.entries) repo.now
-        (prepared ready.lease ready.push (place_at replicas.old.entries repo.now)) }
+        (prepared ready.lease (push_in ready) (place_at replicas.old.entries repo.now)) }
     ensures lawful { AreLawful replicas.old.entries → AreLawful replicas.new.entries }
 {
     if let Some(replica) = replicas.get_mut(repo) {
@@ -194,7 +195,7 @@ pub(crate) fn commit<K: Keeper>(
     alloc: Global,
     replicas: &mut Replicas,
     keeper: &mut K,
-    batch: &Batch,
+    batch: Batch,
     repo: &RepoPath,
     lease: Lease,
 ) -> Result<Hash, NodeError>
@@ -203,7 +204,7 @@ pub(crate) fn commit<K: Keeper>(
     requires ready { IsSome (ready_under lease (place_at replicas.old.entries repo.now).ready) }
     ensures ok { IfOk result (CommitsAt lease repo.now
         (place_at replicas.old.entries) (place_at replicas.new.entries)) }
-    ensures kept { OnOk result (Keeps batch.now (K.rows keeper.old) (K.rows keeper.new)) }
+    ensures kept { OnOk result (Keeps batch (K.rows keeper.old) (K.rows keeper.new)) }
     ensures err { OnErr result
         (Same (place_at replicas.old.entries) (place_at replicas.new.entries)) }
     ensures err_rows { OnErr result (K.rows keeper.new ≡ K.rows keeper.old) }
@@ -227,21 +228,21 @@ pub(crate) fn apply<K: Keeper>(
     alloc: Global,
     replicas: &mut Replicas,
     keeper: &mut K,
-    batch: &Batch,
+    batch: Batch,
     repo: &RepoPath,
     lease: Lease,
     refs: Refs,
-    objects: &[Object],
+    objects: Quarantine,
 ) -> Result<(), NodeError>
     requires room { IsSome (lookup (is_name repo.now) replicas.old.entries) }
     requires above { (place_at replicas.old.entries repo.now).fence ≤ lease }
-    requires comes { bundle_fault (place_at replicas.old.entries repo.now).objects 0 objects.now
+    requires comes { bundle_fault (place_at replicas.old.entries repo.now).objects 0 objects
         ≡ None }
     requires ids { NameHashes refs }
     ensures ok { OnOk result (Changes (place_at replicas.old.entries)
         (place_at replicas.new.entries) repo.now
-        (taken_over lease refs objects.now (place_at replicas.old.entries repo.now))) }
-    ensures kept { OnOk result (Keeps batch.now (K.rows keeper.old) (K.rows keeper.new)) }
+        (taken_over lease refs objects (place_at replicas.old.entries repo.now))) }
+    ensures kept { OnOk result (Keeps batch (K.rows keeper.old) (K.rows keeper.new)) }
     ensures err { OnErr result
         (Same (place_at replicas.old.entries) (place_at replicas.new.entries)) }
     ensures err_rows { OnErr result (K.rows keeper.new ≡ K.rows keeper.old) }

@@ -112,7 +112,7 @@ impl<K: Keeper + Drop> Shelf<K> {
             return Ok(());
         }
         let batch = replica.rows_fenced(alloc, repo, lease.number())?;
-        keep_rows(alloc, &mut self.replicas, &mut self.keeper, &batch, repo)?;
+        keep_rows(alloc, &mut self.replicas, &mut self.keeper, batch, repo)?;
         replicas::raise(&mut self.replicas, repo, lease);
         Ok(())
     }
@@ -138,7 +138,7 @@ impl<K: Keeper + Drop> Node for Shelf<K> {
         let replica = find(&self.replicas, repo, &self.unheard);
         replica.may_create(lease)?;
         let batch = replica.rows_emptied(alloc, repo, lease, true)?;
-        keep_rows(alloc, &mut self.replicas, &mut self.keeper, &batch, repo)?;
+        keep_rows(alloc, &mut self.replicas, &mut self.keeper, batch, repo)?;
         replicas::create(alloc, &mut self.replicas, repo, lease);
         Ok(())
     }
@@ -168,7 +168,7 @@ impl<K: Keeper + Drop> Node for Shelf<K> {
             Ok(ready) => ready,
             Err(error) => return Err(error),
         };
-        keep_rows(alloc, &mut self.replicas, &mut self.keeper, &batch, repo)?;
+        keep_rows(alloc, &mut self.replicas, &mut self.keeper, batch, repo)?;
         let vote = ready.vote;
         replicas::prepare(&mut self.replicas, repo, ready);
         Ok(vote)
@@ -200,7 +200,7 @@ impl<K: Keeper + Drop> Node for Shelf<K> {
             alloc,
             &mut self.replicas,
             &mut self.keeper,
-            &batch,
+            batch,
             repo,
             lease,
         )
@@ -221,7 +221,7 @@ impl<K: Keeper + Drop> Node for Shelf<K> {
         let replica = find(&self.replicas, repo, &self.unheard);
         replica.may_abort(lease)?;
         let batch = replica.rows_fenced(alloc, repo, lease.number() + 1)?;
-        keep_rows(alloc, &mut self.replicas, &mut self.keeper, &batch, repo)?;
+        keep_rows(alloc, &mut self.replicas, &mut self.keeper, batch, repo)?;
         replicas::abort(&mut self.replicas, repo, lease);
         Ok(())
     }
@@ -326,16 +326,15 @@ impl<K: Keeper + Drop> Node for Shelf<K> {
             (K.rows self.old.keeper) (K.rows self.new.keeper)) }
         ensures refused { IfErr result (λ e. IsRefusal e → self.new.keeper ≡ self.old.keeper) }
     {
-        let objects = snapshot.objects.as_slice();
         let replica = find(&self.replicas, repo, &self.unheard);
-        let refs = replica.may_apply(alloc, lease, snapshot)?;
-        let batch = replica.rows_applied(alloc, repo, lease, &refs, objects)?;
+        let (refs, objects) = replica.may_apply(alloc, lease, snapshot)?;
+        let batch = replica.rows_applied(alloc, repo, lease, &refs, &objects)?;
         make_room(alloc, &mut self.replicas, repo)?;
         replicas::apply(
             alloc,
             &mut self.replicas,
             &mut self.keeper,
-            &batch,
+            batch,
             repo,
             lease,
             refs,
@@ -358,7 +357,7 @@ impl<K: Keeper + Drop> Node for Shelf<K> {
         let replica = find(&self.replicas, repo, &self.unheard);
         replica.admits(lease)?;
         let batch = replica.rows_emptied(alloc, repo, lease, false)?;
-        keep_rows(alloc, &mut self.replicas, &mut self.keeper, &batch, repo)?;
+        keep_rows(alloc, &mut self.replicas, &mut self.keeper, batch, repo)?;
         replicas::remove(alloc, &mut self.replicas, repo, lease);
         Ok(())
     }

@@ -17,7 +17,7 @@ apply-result-requires-clause-above g c =
 
 pub apply-result-requires-clause-comes : goal.apply-result-requires-clause-comes
 apply-result-requires-clause-comes g c =
-    subst (λ (p : ReplicaState). bundle_fault p.objects 0 c.args.objects.now ≡ None)
+    subst (λ (p : ReplicaState). bundle_fault p.objects 0 c.args.objects ≡ None)
     (place_here c.args.replicas.now.entries c.args.repo.now c.args.repo.now
     c.in-Some.replica.now refl c.in-Some.ensures.value)
     c.requires.comes
@@ -26,7 +26,7 @@ pub returns-in-Some-clause-ok : goal.returns-in-Some-clause-ok
 returns-in-Some-clause-ok g c =
     let new = (c.get_mut.follows.lender c.apply-result.new.self).entries in
     let old = c.args.replicas.now.entries in
-    let does = taken_over c.args.lease c.args.refs c.args.objects.now in
+    let does = taken_over c.args.lease c.args.refs c.args.objects in
     OnOk-on (c.apply-result.new.self ≡ does c.in-Some.replica.now)
     (Changes (place_at old) (place_at new) c.args.repo.now (does (place_at old c.args.repo.now)))
     c.apply-result.result

@@ -3,7 +3,6 @@ use Rattle.px_base.specs.Object.{GitObject}
 use Rattle.objstore.specs.Bundle.{bundle_fault}
 use Rattle.px_base.specs.RefList.{IsRefList}
 use Rattle.px_node.proofs.ShelfLemmas.{admits_first, apply_ends, rows_after_apply}
-use Rattle.node_replica.specs.Hashes.{NameHashes}
 use Rattle.px_node.specs.Shelf.{place_at}
 use Rattle.node_calls.specs.Refusals.{of_bundle}
 use Rattle.px_node.proofs.shelf.ShelfNode.apply.Goals as goal
@@ -13,9 +12,9 @@ invariant_of-self-2 g c =
     let self = c.args.self.now in
     let place = c.find-replica.result.now in
     let told = c.in_ok-refs.ensures in
-    let objects = c.as_slice-objects.result.now in
+    let objects = c.in_ok-refs.objects in
     let comes = subst (λ (o : List GitObject). bundle_fault place.objects 0 o ≡ None)
-    (sym c.as_slice-objects.ensures) told.comes in
+    (sym told.objects) told.comes in
     record {
       rows_stand = rows_after_apply (g.K.Keeper.rows self.keeper)
           (g.K.Keeper.rows c.apply.new.keeper) (place_at self.replicas.entries)
@@ -30,9 +29,6 @@ invariant_of-self-2 g c =
       lawful = c.apply.ensures.lawful (c.make_room.ensures.lawful self.lawful);
     }
 
-pub apply-requires-clause-ids : goal.apply-requires-clause-ids
-apply-requires-clause-ids g c = subst NameHashes (sym c.in_ok-refs.ensures.ok) c.in_ok-refs.ensures.ids
-
 pub returns-clause-ends : goal.returns-clause-ends
 returns-clause-ends g c =
     let self = c.args.self.now in
@@ -40,6 +36,6 @@ returns-clause-ends g c =
     apply_ends c.args.lease c.args.snapshot.now c.args.repo.now c.apply.result
     (place_at self.replicas.entries) (place_at c.make_room.new.replicas.entries)
     (place_at c.apply.new.replicas.entries) c.find-replica.result.now c.in_ok-refs.refs
-    c.as_slice-objects.result.now (λ q. c.make_room.ensures.same q) c.find-replica.ensures
-    told.accepted told.closed told.ok c.as_slice-objects.ensures c.apply.ensures.ok
+    c.in_ok-refs.objects (λ q. c.make_room.ensures.same q) c.find-replica.ensures
+    told.accepted told.closed told.ok told.objects c.apply.ensures.ok
     c.apply.ensures.err c.apply.ensures.known

@@ -2,6 +2,7 @@ use Rattle.std.proofs.Common.{ℕ, ap, sym, ◌∙◌}
 use Rattle.px_node.proofs.KnownLemmas.{prepare_known}
 use Rattle.px_node.proofs.ShelfLemmas.{rows_prepared}
 use Rattle.px_node.specs.Shelf.{place_at}
+use Rattle.node_replica.specs.Prepared.{push_in}
 use Rattle.node_rows.specs.Writes.{fenced_rows}
 use Rattle.px_node.proofs.shelf.ShelfNode.prepare.Goals as goal
 
@@ -23,7 +24,7 @@ invariant_of-self-2 g c =
             lawful = c.in_ok-batch.ensures.path;
             kept_ = c.in_ok-keep_rows.ensures.kept;
           })
-          ready.lease ready.push is.at.above is.at.held
+          ready.lease (push_in ready) is.at.above is.at.held
           (c.in_ok-batch.ensures.batch
           ∙ ap (λ (n : ℕ). fenced_rows c.args.repo.now n place)
           (c.number.ensures.value ∙ sym is.lease_is)) c.prepare.ensures.changes;

@@ -1,11 +1,11 @@
 //! Lists of updates on the references of a repository.
 
-use crate::calls::{Answers, play};
 use crate::words::{letter, object, update, updates};
 use px_base::{Hash, RefName, Updates};
 use refstore::{Prepared, RefRefusal, Refs};
 use std::alloc::{AllocError, Global};
 use std::test::Fail;
+use tests_tables::play;
 
 fn text(name: &RefName) -> &str {
     str::from_utf8(name.as_bytes()).unwrap_or("no text")
@@ -114,17 +114,15 @@ fn copied(alloc: Global, refs: &Refs) -> Result<Refs, AllocError> {
     Refs::of_list(alloc, &list)
 }
 
-impl Answers for Refs {
-    fn answer(&mut self, alloc: Global, name: &str, rest: &str) -> Result<String, Fail> {
-        match name {
-            "prepare" => prepare(alloc, self, rest),
-            "commit" => commit(alloc, self, rest),
-            "abort" => abort(alloc, self, rest),
-            "create" => create(alloc, self, rest),
-            "get" => counted(alloc, self, rest),
-            "many" => many(alloc, self, rest),
-            _ => shown(alloc, &copied(alloc, self)?),
-        }
+fn answer(alloc: Global, refs: &mut Refs, name: &str, rest: &str) -> Result<String, Fail> {
+    match name {
+        "prepare" => prepare(alloc, refs, rest),
+        "commit" => commit(alloc, refs, rest),
+        "abort" => abort(alloc, refs, rest),
+        "create" => create(alloc, refs, rest),
+        "get" => counted(alloc, refs, rest),
+        "many" => many(alloc, refs, rest),
+        _ => shown(alloc, &copied(alloc, refs)?),
     }
 }
 
@@ -132,73 +130,73 @@ impl Answers for Refs {
 // the least name that it meets. Each update is tested before the next one, and all before any
 // conflict. The last line shows that nothing was done.
 const LISTS: &str = "\
-    commit 0 B refs/a; 0 T refs/a-b; 0 B refs/c/d->B refs/a T refs/a-b B refs/c/d
-    prepare ->empty
-    prepare 0 0 refs/x->void refs/x
-    prepare 0 B refs/x; 0 T refs/x->twice refs/x
-    prepare B T refs/x->stale refs/x 0
-    prepare 0 T refs/a->stale refs/a B
-    prepare T B refs/a->stale refs/a B
-    prepare 0 B refs/a/b->conflict refs/a/b refs/a
-    prepare 0 B refs/c->conflict refs/c refs/c/d
-    prepare 0 B refs/q/r; 0 B refs/q->conflict refs/q/r refs/q
-    prepare 0 B refs/e; 0 B refs/e/b; 0 B refs/e/a->conflict refs/e refs/e/a
-    prepare 0 B refs/a/b; 0 B refs/a/b/c->conflict refs/a/b refs/a
-    prepare B T refs/x; 0 0 refs/y->stale refs/x 0
-    prepare 0 B refs/a/b; 0 0 refs/y->void refs/y
-    prepare 0 0 refs/a; 0 0 refs/a->void refs/a
-    prepare B B refs/a->B refs/a T refs/a-b B refs/c/d
-    prepare B T refs/a->T refs/a T refs/a-b B refs/c/d
-    prepare B 0 refs/a; 0 T refs/a/b->T refs/a-b T refs/a/b B refs/c/d
-    prepare T 0 refs/a-b; 0 T refs/b->B refs/a T refs/b B refs/c/d
-    list ->B refs/a T refs/a-b B refs/c/d";
+    commit 0 B refs/a; 0 T refs/a-b; 0 B refs/c/d -> B refs/a T refs/a-b B refs/c/d
+    prepare -> empty
+    prepare 0 0 refs/x -> void refs/x
+    prepare 0 B refs/x; 0 T refs/x -> twice refs/x
+    prepare B T refs/x -> stale refs/x 0
+    prepare 0 T refs/a -> stale refs/a B
+    prepare T B refs/a -> stale refs/a B
+    prepare 0 B refs/a/b -> conflict refs/a/b refs/a
+    prepare 0 B refs/c -> conflict refs/c refs/c/d
+    prepare 0 B refs/q/r; 0 B refs/q -> conflict refs/q/r refs/q
+    prepare 0 B refs/e; 0 B refs/e/b; 0 B refs/e/a -> conflict refs/e refs/e/a
+    prepare 0 B refs/a/b; 0 B refs/a/b/c -> conflict refs/a/b refs/a
+    prepare B T refs/x; 0 0 refs/y -> stale refs/x 0
+    prepare 0 B refs/a/b; 0 0 refs/y -> void refs/y
+    prepare 0 0 refs/a; 0 0 refs/a -> void refs/a
+    prepare B B refs/a -> B refs/a T refs/a-b B refs/c/d
+    prepare B T refs/a -> T refs/a T refs/a-b B refs/c/d
+    prepare B 0 refs/a; 0 T refs/a/b -> T refs/a-b T refs/a/b B refs/c/d
+    prepare T 0 refs/a-b; 0 T refs/b -> B refs/a T refs/b B refs/c/d
+    list -> B refs/a T refs/a-b B refs/c/d";
 
 #[test]
 fn a_list_is_refused_or_has_its_references(rt: HostRuntime) -> Result<(), Fail> {
     let alloc = rt.alloc();
-    play(alloc, &mut Refs::new(alloc), LISTS)
+    play(alloc, &mut Refs::new(alloc), answer, LISTS)
 }
 
 // The zero name is told before the name that is there, and that before a conflict.
 const CREATED: &str = "\
-    commit 0 B refs/a; 0 T refs/c/d->B refs/a T refs/c/d
-    create 0 refs/x->void refs/x
-    create 0 refs/a->void refs/a
-    create T refs/a->stale refs/a B
-    create T refs/a/b->conflict refs/a/b refs/a
-    create T refs/c->conflict refs/c refs/c/d
-    create T refs/b->B refs/a T refs/b T refs/c/d
-    create B refs/b->stale refs/b T
-    list ->B refs/a T refs/b T refs/c/d";
+    commit 0 B refs/a; 0 T refs/c/d -> B refs/a T refs/c/d
+    create 0 refs/x -> void refs/x
+    create 0 refs/a -> void refs/a
+    create T refs/a -> stale refs/a B
+    create T refs/a/b -> conflict refs/a/b refs/a
+    create T refs/c -> conflict refs/c refs/c/d
+    create T refs/b -> B refs/a T refs/b T refs/c/d
+    create B refs/b -> stale refs/b T
+    list -> B refs/a T refs/b T refs/c/d";
 
 #[test]
 fn a_reference_is_created_or_refused(rt: HostRuntime) -> Result<(), Fail> {
     let alloc = rt.alloc();
-    play(alloc, &mut Refs::new(alloc), CREATED)
+    play(alloc, &mut Refs::new(alloc), answer, CREATED)
 }
 
 // The vote is by sha1sum. The last line has a copy of all references.
 const COMMITTED: &str = "\
-    commit 0 B refs/heads/a->B refs/heads/a
-    abort 0 B refs/heads/b; B T refs/heads/a->9888a85d1037c88a5a42f33b16989b488f3b5b8f
-    get refs/heads/b->none of 1
-    commit 0 B refs/heads/b; B T refs/heads/a->T refs/heads/a B refs/heads/b
-    get refs/heads/b->B of 2
-    list ->T refs/heads/a B refs/heads/b";
+    commit 0 B refs/heads/a -> B refs/heads/a
+    abort 0 B refs/heads/b; B T refs/heads/a -> 9888a85d1037c88a5a42f33b16989b488f3b5b8f
+    get refs/heads/b -> none of 1
+    commit 0 B refs/heads/b; B T refs/heads/a -> T refs/heads/a B refs/heads/b
+    get refs/heads/b -> B of 2
+    list -> T refs/heads/a B refs/heads/b";
 
 #[test]
 fn what_was_prepared_is_committed_or_not(rt: HostRuntime) -> Result<(), Fail> {
     let alloc = rt.alloc();
-    play(alloc, &mut Refs::new(alloc), COMMITTED)
+    play(alloc, &mut Refs::new(alloc), answer, COMMITTED)
 }
 
 // The references refs/000000 and so on are created at once.
 const MANY: &str = "\
-    many 32768->32768
-    many 32769->too many";
+    many 32768 -> 32768
+    many 32769 -> too many";
 
 #[test]
 fn a_repository_has_a_greatest_number_of_references(rt: HostRuntime) -> Result<(), Fail> {
     let alloc = rt.alloc();
-    play(alloc, &mut Refs::new(alloc), MANY)
+    play(alloc, &mut Refs::new(alloc), answer, MANY)
 }

@@ -1,11 +1,11 @@
 //! Names of references and paths, and the text and the vote of a push.
 
-use crate::calls::{Answers, play};
 use crate::words::updates;
 use px_base::{Lease, NameFault, RefName, RepoPath};
 use refstore::{hook_text, vote_of};
 use std::alloc::Global;
 use std::test::Fail;
+use tests_tables::play;
 
 // What reading comes to: whether all is as it should be, or the first bad place.
 fn told(alloc: Global, read: Result<bool, NameFault>) -> Result<String, Fail> {
@@ -53,106 +53,101 @@ fn vote(alloc: Global, text: &str) -> Result<String, Fail> {
     Ok(String::from_str(alloc, str::from_utf8(&vote.text()).unwrap_or("?"))?)
 }
 
-// The code of names, leases and votes.
-#[derive(Clone, Copy)]
-struct Readers;
-
-impl Answers for Readers {
-    fn answer(&mut self, alloc: Global, name: &str, rest: &str) -> Result<String, Fail> {
-        match name {
-            "reference" => told(alloc, reference(alloc, rest.as_bytes())),
-            "path" => told(alloc, path(alloc, rest.as_bytes())),
-            "lease" => lease(alloc, rest),
-            "above" => told(alloc, above(alloc, rest)),
-            _ => vote(alloc, rest),
-        }
+// What names, leases and votes are told as.
+fn answer(alloc: Global, _: &mut (), name: &str, rest: &str) -> Result<String, Fail> {
+    match name {
+        "reference" => told(alloc, reference(alloc, rest.as_bytes())),
+        "path" => told(alloc, path(alloc, rest.as_bytes())),
+        "lease" => lease(alloc, rest),
+        "above" => told(alloc, above(alloc, rest)),
+        _ => vote(alloc, rest),
     }
 }
 
 // Git says the same of these (`git check-ref-format`), but names no place. It takes the last two: a
 // name outside refs/, and bytes above ASCII.
 const NAMES: &str = "\
-    reference refs/heads/main->ok
-    reference refs/a->ok
-    reference refs/a./b->ok
-    reference refs/@->ok
-    reference refs/a@b->ok
-    reference refs/a.lockb->ok
-    reference refs/a..b->7
-    reference refs/a.lock/b->11
-    reference refs/a.lock->11
-    reference refs/.lock/a->5
-    reference refs/a.->7
-    reference refs/->5
-    reference refs/a/->7
-    reference refs//a->5
-    reference refs/.a->5
-    reference refs/a/@{->8
-    reference refs/a b->6
-    reference refs/a~1->6
-    reference refs/a\\b->6
-    reference refs/a\x7f->6
-    reference refs->4
-    reference heads/a->0
-    reference refs/\u{e9}->5";
+    reference refs/heads/main -> ok
+    reference refs/a -> ok
+    reference refs/a./b -> ok
+    reference refs/@ -> ok
+    reference refs/a@b -> ok
+    reference refs/a.lockb -> ok
+    reference refs/a..b -> 7
+    reference refs/a.lock/b -> 11
+    reference refs/a.lock -> 11
+    reference refs/.lock/a -> 5
+    reference refs/a. -> 7
+    reference refs/ -> 5
+    reference refs/a/ -> 7
+    reference refs//a -> 5
+    reference refs/.a -> 5
+    reference refs/a/@{ -> 8
+    reference refs/a b -> 6
+    reference refs/a~1 -> 6
+    reference refs/a\\b -> 6
+    reference refs/a\x7f -> 6
+    reference refs -> 4
+    reference heads/a -> 0
+    reference refs/\u{e9} -> 5";
 
 #[test]
 fn a_reference_has_a_name_or_a_first_bad_place(rt: HostRuntime) -> Result<(), Fail> {
-    play(rt.alloc(), &mut Readers, NAMES)
+    play(rt.alloc(), &mut (), answer, NAMES)
 }
 
 // A name has at most 255 bytes.
 const LONG_NAMES: &str = "\
     reference refs/aaaaaaaaaaaaaaaaaaaaaaaaaaaaaaaaaaaaaaaaaaaaaaaaaaaaaaaaaaaaaaaaaaaaaaaaaaaaa\
         aaaaaaaaaaaaaaaaaaaaaaaaaaaaaaaaaaaaaaaaaaaaaaaaaaaaaaaaaaaaaaaaaaaaaaaaaaaaaaaaaaaaaaaa\
-        aaaaaaaaaaaaaaaaaaaaaaaaaaaaaaaaaaaaaaaaaaaaaaaaaaaaaaaaaaaaaaaaaaaaaaaaaaaaaaaaaaaaa->ok
+        aaaaaaaaaaaaaaaaaaaaaaaaaaaaaaaaaaaaaaaaaaaaaaaaaaaaaaaaaaaaaaaaaaaaaaaaaaaaaaaaaaaaa -> ok
     reference refs/aaaaaaaaaaaaaaaaaaaaaaaaaaaaaaaaaaaaaaaaaaaaaaaaaaaaaaaaaaaaaaaaaaaaaaaaaaaaa\
         aaaaaaaaaaaaaaaaaaaaaaaaaaaaaaaaaaaaaaaaaaaaaaaaaaaaaaaaaaaaaaaaaaaaaaaaaaaaaaaaaaaaaaaa\
-        aaaaaaaaaaaaaaaaaaaaaaaaaaaaaaaaaaaaaaaaaaaaaaaaaaaaaaaaaaaaaaaaaaaaaaaaaaaaaaaaaaaaaa->255
+        aaaaaaaaaaaaaaaaaaaaaaaaaaaaaaaaaaaaaaaaaaaaaaaaaaaaaaaaaaaaaaaaaaaaaaaaaaaaaaaaaaaaaa -> 255
     above refs/b refs/aaaaaaaaaaaaaaaaaaaaaaaaaaaaaaaaaaaaaaaaaaaaaaaaaaaaaaaaaaaaaaaaaaaaaaaaa\
         aaaaaaaaaaaaaaaaaaaaaaaaaaaaaaaaaaaaaaaaaaaaaaaaaaaaaaaaaaaaaaaaaaaaaaaaaaaaaaaaaaaaaaa\
         aaaaaaaaaaaaaaaaaaaaaaaaaaaaaaaaaaaaaaaaaaaaaaaaaaaaaaaaaaaaaaaaaaaaaaaaaaaaaaaaaaaaaaa\
-        aaa->ok";
+        aaa -> ok";
 
 #[test]
 fn a_name_has_a_greatest_length(rt: HostRuntime) -> Result<(), Fail> {
-    play(rt.alloc(), &mut Readers, LONG_NAMES)
+    play(rt.alloc(), &mut (), answer, LONG_NAMES)
 }
 
 // In the last path a bad byte comes before a bad component.
 const PATHS: &str = "\
-    path x.git->ok
-    path @hashed/a_b/c+d-1.git->ok
-    path a/.b->ok
-    path a/..b->ok
-    path ->0
-    path /a->0
-    path ./a->0
-    path ..->0
-    path a//b->2
-    path a/->2
-    path a/../b->2
-    path a b->1
-    path a/./b c->5";
+    path x.git -> ok
+    path @hashed/a_b/c+d-1.git -> ok
+    path a/.b -> ok
+    path a/..b -> ok
+    path -> 0
+    path /a -> 0
+    path ./a -> 0
+    path .. -> 0
+    path a//b -> 2
+    path a/ -> 2
+    path a/../b -> 2
+    path a b -> 1
+    path a/./b c -> 5";
 
 #[test]
 fn a_repository_has_a_path_or_a_first_bad_place(rt: HostRuntime) -> Result<(), Fail> {
-    play(rt.alloc(), &mut Readers, PATHS)
+    play(rt.alloc(), &mut (), answer, PATHS)
 }
 
 // The last number is 2^64 - 1. The votes are by sha1sum.
 const LEASES_AND_VOTES: &str = "\
-    lease 0->0
-    lease 1->1
-    lease 18446744073709551614->18446744073709551614
-    lease 18446744073709551615->none
-    vote 0 B refs/tags/empty->486a01e01b4248b74452b5a140fb221f9033e770
-    vote 0 B refs/heads/b; B T refs/heads/a->9888a85d1037c88a5a42f33b16989b488f3b5b8f
-    vote B 0 refs/heads/main->b4572333b6138484822f55bd86e631fe3caae694";
+    lease 0 -> 0
+    lease 1 -> 1
+    lease 18446744073709551614 -> 18446744073709551614
+    lease 18446744073709551615 -> none
+    vote 0 B refs/tags/empty -> 486a01e01b4248b74452b5a140fb221f9033e770
+    vote 0 B refs/heads/b; B T refs/heads/a -> 9888a85d1037c88a5a42f33b16989b488f3b5b8f
+    vote B 0 refs/heads/main -> b4572333b6138484822f55bd86e631fe3caae694";
 
 #[test]
 fn a_lease_is_below_the_last_number_and_a_push_has_its_vote(rt: HostRuntime) -> Result<(), Fail> {
-    play(rt.alloc(), &mut Readers, LEASES_AND_VOTES)
+    play(rt.alloc(), &mut (), answer, LEASES_AND_VOTES)
 }
 
 const HOOK_TEXT: &[u8] =

@@ -1,11 +1,11 @@
 //! Stores, and what is reachable in them. Names are those that `git hash-object` prints.
 
-use crate::calls::{Answers, play};
 use crate::words::{content, kind, letter, object};
 use objstore::{ClosedFault, Put, PutFault, Store, name_of};
 use px_base::{Bytes, Hash, Kind, Object, ObjectId};
 use std::alloc::Global;
 use std::test::Fail;
+use tests_tables::play;
 
 // The content of the commit COMMIT.
 const COMMIT: &str = "tree 4b825dc642cb6eb9a060e54bf8d69288fbee4904|\
@@ -78,14 +78,12 @@ struct Stores {
     extra: Store,
 }
 
-impl Answers for Stores {
-    fn answer(&mut self, alloc: Global, name: &str, rest: &str) -> Result<String, Fail> {
-        match name {
-            "put" => put(alloc, &mut self.store, rest),
-            "extra" => put(alloc, &mut self.extra, rest),
-            "get" => shown(alloc, self.store.get(&id(alloc, rest)?)),
-            _ => closed(alloc, self, rest),
-        }
+fn answer(alloc: Global, stores: &mut Stores, name: &str, rest: &str) -> Result<String, Fail> {
+    match name {
+        "put" => put(alloc, &mut stores.store, rest),
+        "extra" => put(alloc, &mut stores.extra, rest),
+        "get" => shown(alloc, stores.store.get(&id(alloc, rest)?)),
+        _ => closed(alloc, stores, rest),
     }
 }
 
@@ -95,16 +93,16 @@ fn play_in_stores(alloc: Global, table: &str) -> Result<(), Fail> {
         store: Store::new(alloc),
         extra: Store::new(alloc),
     };
-    play(alloc, &mut stores, table)
+    play(alloc, &mut stores, answer, table)
 }
 
 const PUT: &str = "\
-    put blob ->added
-    put blob ->present
-    put tree ->added
-    put commit trees->bad 4
-    get T->Tree 0
-    get other->none";
+    put blob -> added
+    put blob -> present
+    put tree -> added
+    put commit trees -> bad 4
+    get T -> Tree 0
+    get other -> none";
 
 #[test]
 fn an_object_is_put_once(rt: HostRuntime) -> Result<(), Fail> {
@@ -112,10 +110,10 @@ fn an_object_is_put_once(rt: HostRuntime) -> Result<(), Fail> {
 }
 
 const CLOSED: &str = "\
-    extra blob ->added
-    closed ->ok
-    closed B->ok
-    closed B T->missing T";
+    extra blob -> added
+    closed -> ok
+    closed B -> ok
+    closed B T -> missing T";
 
 #[test]
 fn an_extra_store_has_what_is_missing(rt: HostRuntime) -> Result<(), Fail> {
@@ -123,12 +121,12 @@ fn an_extra_store_has_what_is_missing(rt: HostRuntime) -> Result<(), Fail> {
 }
 
 const FOLLOWED: &str = "\
-    put commit COMMIT->added
-    closed COMMIT->missing T
-    extra tree ->added
-    closed COMMIT->missing B
-    extra blob ->added
-    closed COMMIT->ok";
+    put commit COMMIT -> added
+    closed COMMIT -> missing T
+    extra tree -> added
+    closed COMMIT -> missing B
+    extra blob -> added
+    closed COMMIT -> ok";
 
 #[test]
 fn links_are_followed_in_order(rt: HostRuntime) -> Result<(), Fail> {

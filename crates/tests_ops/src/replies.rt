@@ -241,6 +241,17 @@ none stale->stale
 jobs->jobs 1:update:5:a>b 2:delete:5:b
 no jobs->jobs";
 
+// Fails where the text of a reply, put behind another one, is not the wanted one.
+fn compare(alloc: Global, reply: &Reply, want: &str) -> Result<(), Fail> {
+    let mut text = Bytes::from_slice(alloc, b"before ")?;
+    add_reply(&mut text, reply)?;
+    let told = str::from_utf8(text.as_slice()).unwrap_or("?");
+    if told.strip_prefix("before ") == Some(want) {
+        return Ok(());
+    }
+    Err(Fail::new(format_args!("{want} is told as: {told}")))
+}
+
 #[test]
 fn each_reply_is_one_line(rt: HostRuntime) -> Result<(), Fail> {
     let alloc = rt.alloc();
@@ -248,12 +259,32 @@ fn each_reply_is_one_line(rt: HostRuntime) -> Result<(), Fail> {
         let Some((word, want)) = line.split_once("->") else {
             return Err(Fail::new("a line has no text"));
         };
-        let mut text = Bytes::from_slice(alloc, b"before ")?;
-        add_reply(&mut text, &reply(alloc, word)?)?;
-        let told = str::from_utf8(text.as_slice()).unwrap_or("?");
-        if told.strip_prefix("before ") != Some(want) {
-            return Err(Fail::new(format_args!("{word} is told as: {told}")));
-        }
+        compare(alloc, &reply(alloc, word)?, want)?;
     }
     Ok(())
+}
+
+#[test]
+fn a_long_list_of_jobs_is_told_whole(rt: HostRuntime) -> Result<(), Fail> {
+    let alloc = rt.alloc();
+    let mut want = String::from_str(alloc, "stale")?;
+    for number in 0u64..1000 {
+        want.push_str(format!(in alloc; " {number}")?.as_str())?;
+    }
+    let reply = Reply::StaleIs(numbers(alloc, 1000)?);
+    compare(alloc, &reply, want.as_str())
+}
+
+// A virtual storage has at most 64 storages.
+#[test]
+fn the_bookings_of_a_full_virtual_storage_are_told(rt: HostRuntime) -> Result<(), Fail> {
+    let alloc = rt.alloc();
+    let mut rows = Items::new(alloc);
+    let mut want = String::from_str(alloc, "newest 64")?;
+    for number in 0u64..64 {
+        rows.push(row(b'a', Booking::At(Gen(number)))?)?;
+        want.push_str(format!(in alloc; " a=at:{number}")?.as_str())?;
+    }
+    let newest = Gen(64);
+    compare(alloc, &Reply::Books { newest, rows }, want.as_str())
 }

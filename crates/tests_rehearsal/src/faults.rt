@@ -1,12 +1,12 @@
 //! Faults of the streams, and words that are no command.
 
-use crate::calls::{Answers, play};
 use crate::runs::{Ran, rehearsed, run_of, sink, source};
 use px_base::Words;
 use px_run::{Status, start, start_without_memory};
 use std::alloc::{AllocError, Global};
 use std::process::ExitCode;
 use std::test::Fail;
+use tests_tables::play;
 
 const SCRIPT: &[u8] = b"open 2 1 a:1 b:1 c:1\n\
     cast 1 a prepared 1111111111111111111111111111111111111111\n\
@@ -93,10 +93,6 @@ fn want_of_memory_is_told(rt: HostRuntime) -> Result<(), Fail> {
     Ok(())
 }
 
-// Processes over a script of one line. Each call has the arguments, with a space between them.
-#[derive(Clone, Copy)]
-struct Processes;
-
 // The exit status, where it is one of those that are wanted.
 fn code(status: ExitCode) -> &'static str {
     for (known, code) in [(0, "0"), (2, "2"), (6, "6")] {
@@ -107,30 +103,30 @@ fn code(status: ExitCode) -> &'static str {
     "another"
 }
 
-impl Answers for Processes {
-    fn answer(&mut self, alloc: Global, _: &str, rest: &str) -> Result<String, Fail> {
-        let mut args = Vec::new(alloc);
-        for arg in rest.split(" ") {
-            args.push(String::from_str(alloc, arg)?)?;
-        }
-        let mut input = source(alloc, b"open 1 1 a:1\n", &[])?;
-        let (mut out, mut err) = (sink(alloc, &[])?, sink(alloc, &[])?);
-        let status = start(alloc, Ok(args.into_iter()), &mut input, &mut out, &mut err);
-        let told = str::from_utf8(out.bytes()).unwrap_or("?");
-        let said = str::from_utf8(err.bytes()).unwrap_or("?");
-        Ok(format!(in alloc; "{} {told:?} {said:?}", code(status))?)
+// What a process over a script of one line comes to. Each call has the arguments, with a space between
+// them.
+fn answer(alloc: Global, _: &mut (), _: &str, rest: &str) -> Result<String, Fail> {
+    let mut args = Vec::new(alloc);
+    for arg in rest.split(" ") {
+        args.push(String::from_str(alloc, arg)?)?;
     }
+    let mut input = source(alloc, b"open 1 1 a:1\n", &[])?;
+    let (mut out, mut err) = (sink(alloc, &[])?, sink(alloc, &[])?);
+    let status = start(alloc, Ok(args.into_iter()), &mut input, &mut out, &mut err);
+    let told = str::from_utf8(out.bytes()).unwrap_or("?");
+    let said = str::from_utf8(err.bytes()).unwrap_or("?");
+    Ok(format!(in alloc; "{} {told:?} {said:?}", code(status))?)
 }
 
 // The first argument is the program's name.
 const PROCESSES: &str = "\
-    run praefect rehearse->0 \"tx 1\\n\" \"\"
-    run rehearse rehearse->0 \"tx 1\\n\" \"\"
-    run rehearse->2 \"\" \"praefect: usage\\n\"
-    run praefect rehearsal->2 \"\" \"praefect: usage\\n\"
-    run praefect rehearse rehearse->2 \"\" \"praefect: usage\\n\"";
+    run praefect rehearse -> 0 \"tx 1\\n\" \"\"
+    run rehearse rehearse -> 0 \"tx 1\\n\" \"\"
+    run rehearse -> 2 \"\" \"praefect: usage\\n\"
+    run praefect rehearsal -> 2 \"\" \"praefect: usage\\n\"
+    run praefect rehearse rehearse -> 2 \"\" \"praefect: usage\\n\"";
 
 #[test]
 fn the_words_behind_the_name_are_the_command(rt: HostRuntime) -> Result<(), Fail> {
-    play(rt.alloc(), &mut Processes, PROCESSES)
+    play(rt.alloc(), &mut (), answer, PROCESSES)
 }

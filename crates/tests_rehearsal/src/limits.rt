@@ -1,12 +1,12 @@
 //! Bad lines, and the limits of a line and of the whole input.
 
-use crate::calls::{Answers, play};
 use crate::runs::rehearsed;
 use px_base::{MemSink, MemSource};
 use px_world::rehearse_within;
 use script_run::MAX_LINE_BYTES;
 use std::alloc::{AllocError, Global};
 use std::test::Fail;
+use tests_tables::play;
 
 // A line each, behind what is bad about it.
 const BAD: &str = "\
@@ -70,47 +70,42 @@ fn ended(alloc: Global, limit: u64, script: Vec<u8>) -> Result<String, Fail> {
     Ok(format!(in alloc; "{end:?}")?)
 }
 
-// Runs within a limit. Each call has the limit and a script.
-#[derive(Clone, Copy)]
-struct Limits;
-
-impl Answers for Limits {
-    fn answer(&mut self, alloc: Global, name: &str, rest: &str) -> Result<String, Fail> {
-        let (limit, text) = rest.split_once(" ").unwrap_or((rest, ""));
-        let limit = limit.parse::<u64>()?;
-        match name {
-            "script" => ended(alloc, limit, script(alloc, text)?),
-            _ => ended(alloc, limit, comment(alloc, text)?),
-        }
+// What a run within a limit comes to. Each call has the limit and a script.
+fn answer(alloc: Global, _: &mut (), name: &str, rest: &str) -> Result<String, Fail> {
+    let (limit, text) = rest.split_once(" ").unwrap_or((rest, ""));
+    let limit = limit.parse::<u64>()?;
+    match name {
+        "script" => ended(alloc, limit, script(alloc, text)?),
+        _ => ended(alloc, limit, comment(alloc, text)?),
     }
 }
 
 // A line that is bad and passes the limit is not read whole; one before it is.
 const INPUTS: &str = "\
-    script 4 #a||->Done
-    script 3 #a||->TooLong
-    script 2 #a|->TooLong
-    script 2 #a->Done
-    script 1 #a->TooLong
-    script 0 ->Done
-    script 2 xyz|->TooLong
-    script 4 x|yz->BadLine(1)";
+    script 4 #a|| -> Done
+    script 3 #a|| -> TooLong
+    script 2 #a| -> TooLong
+    script 2 #a -> Done
+    script 1 #a -> TooLong
+    script 0 -> Done
+    script 2 xyz| -> TooLong
+    script 4 x|yz -> BadLine(1)";
 
 #[test]
 fn the_input_ends_exactly_at_its_limit(rt: HostRuntime) -> Result<(), Fail> {
-    play(rt.alloc(), &mut Limits, INPUTS)
+    play(rt.alloc(), &mut (), answer, INPUTS)
 }
 
 // The greatest length of a line is 1048576 bytes. From the third line on one byte passes both limits:
 // a line feed ends a line that is not too long.
 const LONG_LINES: &str = "\
-    comment 2097152 |->Done
-    comment 2097152 #->BadLine(1)
-    comment 1048576 |->TooLong
-    comment 1048576 #->BadLine(1)
-    comment 1048575 #->TooLong";
+    comment 2097152 | -> Done
+    comment 2097152 # -> BadLine(1)
+    comment 1048576 | -> TooLong
+    comment 1048576 # -> BadLine(1)
+    comment 1048575 # -> TooLong";
 
 #[test]
 fn a_line_has_a_greatest_length(rt: HostRuntime) -> Result<(), Fail> {
-    play(rt.alloc(), &mut Limits, LONG_LINES)
+    play(rt.alloc(), &mut (), answer, LONG_LINES)
 }

@@ -1,11 +1,11 @@
 //! Lines and events at a world, and what it answers.
 
-use crate::calls::{Answers, play};
 use px_base::{Bytes, MemSink, MemSource, RepoId, StorageName, TxId};
 use px_world::{Event, Op, Refusal, RehearseEnd, Reply, World, add_line, rehearse};
 use script_run::{Act, StateMachine};
 use std::alloc::Global;
 use std::test::Fail;
+use tests_tables::play;
 use voters::{Outcome, VoterResult};
 
 // A line that is printed, without its line feed.
@@ -59,22 +59,20 @@ fn step(alloc: Global, world: &mut World, asked: &Event) -> Result<String, Fail>
     Ok(format!(in alloc; "{kind} {}", printed(line.as_slice()))?)
 }
 
-impl Answers for World {
-    fn answer(&mut self, alloc: Global, name: &str, rest: &str) -> Result<String, Fail> {
-        match name {
-            "act" => act(alloc, self, rest),
-            _ => step(alloc, self, &event(rest)?),
-        }
+fn answer(alloc: Global, world: &mut World, name: &str, rest: &str) -> Result<String, Fail> {
+    match name {
+        "act" => act(alloc, world, rest),
+        _ => step(alloc, world, &event(rest)?),
     }
 }
 
 // The number is 2^64 - 1.
 const LAST_NUMBER: &str = "\
-    act open 1 1 a:1->before tx 18446744073709551615
-    act open 1 1 a:1->before refused TransactionsSpent
-    act outcome 18446744073709551615 1->before open
-    act # nothing->nothing
-    act nothing->bad";
+    act open 1 1 a:1 -> before tx 18446744073709551615
+    act open 1 1 a:1 -> before refused TransactionsSpent
+    act outcome 18446744073709551615 1 -> before open
+    act # nothing -> nothing
+    act nothing -> bad";
 
 #[test]
 fn the_last_number_is_given_once(rt: HostRuntime) -> Result<(), Fail> {
@@ -82,21 +80,22 @@ fn the_last_number_is_given_once(rt: HostRuntime) -> Result<(), Fail> {
     play(
         alloc,
         &mut World::after(alloc, TxId(u64::MAX - 1)),
+        answer,
         LAST_NUMBER,
     )
 }
 
 const STEPS: &str = "\
-    act open 1 1 a:1->before tx 1
-    step collect->counted open
-    step outcome->outcome open
-    step stop->unknown refused UnknownTx 2
-    step begin->another refused NotOut";
+    act open 1 1 a:1 -> before tx 1
+    step collect -> counted open
+    step outcome -> outcome open
+    step stop -> unknown refused UnknownTx 2
+    step begin -> another refused NotOut";
 
 #[test]
 fn a_step_answers_and_its_reply_has_a_line(rt: HostRuntime) -> Result<(), Fail> {
     let alloc = rt.alloc();
-    play(alloc, &mut World::new(alloc), STEPS)
+    play(alloc, &mut World::new(alloc), answer, STEPS)
 }
 
 #[test]

@@ -1,9 +1,9 @@
 //! Names, hashes and lists.
 
-use crate::calls::{Answers, play};
 use px_base::{Bytes, Hash, Items, NameFault, RefList, StorageName, Words};
 use std::alloc::{AllocError, Global};
 use std::test::Fail;
+use tests_tables::play;
 
 // What reading a storage name comes to: whether the text is kept, or the first bad byte.
 fn name(alloc: Global, text: &[u8]) -> Result<String, Fail> {
@@ -34,41 +34,36 @@ fn hash(alloc: Global, text: &[u8]) -> Result<String, Fail> {
     Ok(String::from_str(alloc, str::from_utf8(&text).unwrap_or("?"))?)
 }
 
-// The code of names and hashes.
-#[derive(Clone, Copy)]
-struct Readers;
-
-impl Answers for Readers {
-    fn answer(&mut self, alloc: Global, call: &str, rest: &str) -> Result<String, Fail> {
-        match call {
-            "name" => name(alloc, rest.as_bytes()),
-            _ => hash(alloc, rest.as_bytes()),
-        }
+// What names and hashes are read as.
+fn read(alloc: Global, _: &mut (), call: &str, rest: &str) -> Result<String, Fail> {
+    match call {
+        "name" => name(alloc, rest.as_bytes()),
+        _ => hash(alloc, rest.as_bytes()),
     }
 }
 
 // The second and the third name have 64 and 65 bytes.
 const NAMES: &str = "\
-    name gitaly-1.example_A->ok
-    name nnnnnnnnnnnnnnnnnnnnnnnnnnnnnnnnnnnnnnnnnnnnnnnnnnnnnnnnnnnnnnnn->ok
-    name nnnnnnnnnnnnnnnnnnnnnnnnnnnnnnnnnnnnnnnnnnnnnnnnnnnnnnnnnnnnnnnnn->64
-    name ->0
-    name a/b->1
-    name ab\u{e9}->2
-    name  a->0";
+    name gitaly-1.example_A -> ok
+    name nnnnnnnnnnnnnnnnnnnnnnnnnnnnnnnnnnnnnnnnnnnnnnnnnnnnnnnnnnnnnnnn -> ok
+    name nnnnnnnnnnnnnnnnnnnnnnnnnnnnnnnnnnnnnnnnnnnnnnnnnnnnnnnnnnnnnnnnn -> 64
+    name -> 0
+    name a/b -> 1
+    name ab\u{e9} -> 2
+    name  a -> 0";
 
 #[test]
 fn a_storage_name_is_refused_at_its_first_bad_byte(rt: HostRuntime) -> Result<(), Fail> {
-    play(rt.alloc(), &mut Readers, NAMES)
+    play(rt.alloc(), &mut (), read, NAMES)
 }
 
 const HASHES: &str = "\
-    hash a9993e364706816aba3e25717850c26c9cd0d89d->a9993e364706816aba3e25717850c26c9cd0d89d
-    hash A9993E364706816ABA3E25717850C26C9CD0D89D->no
-    hash a9993e364706816aba3e25717850c26c9cd0d89->no
-    hash a9993e364706816aba3e25717850c26c9cd0d89d0->no
-    hash g9993e364706816aba3e25717850c26c9cd0d89d->no
-    hash ->no";
+    hash a9993e364706816aba3e25717850c26c9cd0d89d -> a9993e364706816aba3e25717850c26c9cd0d89d
+    hash A9993E364706816ABA3E25717850C26C9CD0D89D -> no
+    hash a9993e364706816aba3e25717850c26c9cd0d89 -> no
+    hash a9993e364706816aba3e25717850c26c9cd0d89d0 -> no
+    hash g9993e364706816aba3e25717850c26c9cd0d89d -> no
+    hash -> no";
 
 #[test]
 fn a_hash_has_the_bytes_that_its_text_stands_for(rt: HostRuntime) {
@@ -78,7 +73,7 @@ fn a_hash_has_the_bytes_that_its_text_stands_for(rt: HostRuntime) {
 
 #[test]
 fn a_hash_has_one_text(rt: HostRuntime) -> Result<(), Fail> {
-    play(rt.alloc(), &mut Readers, HASHES)
+    play(rt.alloc(), &mut (), read, HASHES)
 }
 
 // A list that grew by a byte and by two.
@@ -107,29 +102,27 @@ fn word_at(alloc: Global, words: &Words, at: usize) -> Result<String, Fail> {
     Ok(format!(in alloc; "[{text}]")?)
 }
 
-impl Answers for Words {
-    fn answer(&mut self, alloc: Global, name: &str, rest: &str) -> Result<String, Fail> {
-        match name {
-            "first" => return word_at(alloc, self, 0),
-            "second" => return word_at(alloc, self, 1),
-            "push" => self.push(alloc, rest)?,
-            _ => {}
-        }
-        let (none, only) = (self.is_empty(), self.is_only("rehearse"));
-        Ok(format!(in alloc; "{} none={none} only={only}", self.len())?)
+fn answer(alloc: Global, words: &mut Words, name: &str, rest: &str) -> Result<String, Fail> {
+    match name {
+        "first" => return word_at(alloc, words, 0),
+        "second" => return word_at(alloc, words, 1),
+        "push" => words.push(alloc, rest)?,
+        _ => {}
     }
+    let (none, only) = (words.is_empty(), words.is_only("rehearse"));
+    Ok(format!(in alloc; "{} none={none} only={only}", words.len())?)
 }
 
 const WORDS: &str = "\
-    count ->0 none=true only=false
-    first ->none
-    push rehearse->1 none=false only=true
-    second ->none
-    push more words->2 none=false only=false
-    first ->[rehearse]
-    second ->[more words]";
+    count -> 0 none=true only=false
+    first -> none
+    push rehearse -> 1 none=false only=true
+    second -> none
+    push more words -> 2 none=false only=false
+    first -> [rehearse]
+    second -> [more words]";
 
 #[test]
 fn words_are_counted_and_compared(rt: HostRuntime) -> Result<(), Fail> {
-    play(rt.alloc(), &mut Words::new(rt.alloc()), WORDS)
+    play(rt.alloc(), &mut Words::new(rt.alloc()), answer, WORDS)
 }

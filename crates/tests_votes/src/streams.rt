@@ -1,12 +1,12 @@
 //! Lines, and the streams that they come from and go to.
 
-use crate::calls::{Answers, play};
 use px_base::{
     Bytes, FailingCalls, LineEnd, MemSink, MemSource, Piece, ReadEnd, Sink, Source, line,
     read_piece, write_all,
 };
 use std::alloc::Global;
 use std::test::Fail;
+use tests_tables::play;
 
 // What came, and the bytes of it in brackets.
 fn shown(alloc: Global, word: &str, bytes: &[u8]) -> Result<String, Fail> {
@@ -24,7 +24,8 @@ fn next_line(alloc: Global, source: &mut MemSource) -> Result<String, Fail> {
     Ok(String::from_str(alloc, word)?)
 }
 
-fn next_piece(alloc: Global, source: &mut MemSource) -> Result<String, Fail> {
+/// A line of at most two bytes, and whether its line feed came.
+pub fn next_piece<S: Source>(alloc: Global, source: &mut S) -> Result<String, Fail> {
     // What stood in the buffer before is not of the line.
     let mut bytes = Bytes::from_slice(alloc, b"stale")?;
     match read_piece(source, 2, &mut bytes) {
@@ -46,13 +47,16 @@ pub fn read<S: Source>(alloc: Global, source: &mut S) -> Result<String, Fail> {
     Ok(format!(in alloc; "{end:?} {} [{text}]", source.read_faults())?)
 }
 
-impl Answers for MemSource {
-    fn answer(&mut self, alloc: Global, name: &str, _: &str) -> Result<String, Fail> {
-        match name {
-            "line" => next_line(alloc, self),
-            "piece" => next_piece(alloc, self),
-            _ => read(alloc, self),
-        }
+fn answer_of_source(
+    alloc: Global,
+    source: &mut MemSource,
+    name: &str,
+    _: &str,
+) -> Result<String, Fail> {
+    match name {
+        "line" => next_line(alloc, source),
+        "piece" => next_piece(alloc, source),
+        _ => read(alloc, source),
     }
 }
 
@@ -60,17 +64,22 @@ impl Answers for MemSource {
 fn play_in(alloc: Global, bytes: &[u8], failing: u64, table: &str) -> Result<(), Fail> {
     let bytes = Vec::from_slice(alloc, bytes)?;
     let failing = Vec::from_slice(alloc, &[failing])?;
-    play(alloc, &mut MemSource::new(bytes, failing), table)
+    play(
+        alloc,
+        &mut MemSource::new(bytes, failing),
+        answer_of_source,
+        table,
+    )
 }
 
 // Three bytes are one too many, and are spent.
 const LINES: &str = "\
-    line ->line [ab]
-    line ->line []
-    line ->too long
-    piece ->line []
-    piece ->last [d]
-    line ->end";
+    line -> line [ab]
+    line -> line []
+    line -> too long
+    piece -> line []
+    piece -> last [d]
+    line -> end";
 
 #[test]
 fn lines_end_with_a_line_feed_or_with_the_input(rt: HostRuntime) -> Result<(), Fail> {
@@ -78,10 +87,10 @@ fn lines_end_with_a_line_feed_or_with_the_input(rt: HostRuntime) -> Result<(), F
 }
 
 const READS: &str = "\
-    read ->Took(2) 0 [ab]
-    read ->Failed 1 []
-    read ->Took(1) 1 [c]
-    read ->End 1 []";
+    read -> Took(2) 0 [ab]
+    read -> Failed 1 []
+    read -> Took(1) 1 [c]
+    read -> End 1 []";
 
 #[test]
 fn the_listed_read_fails(rt: HostRuntime) -> Result<(), Fail> {
@@ -103,42 +112,48 @@ pub fn write_text<K: Sink>(alloc: Global, sink: &mut K, text: &[u8]) -> Result<S
     Ok(format!(in alloc; "{end:?} {}", sink.write_faults())?)
 }
 
-impl Answers for MemSink {
-    fn answer(&mut self, alloc: Global, name: &str, rest: &str) -> Result<String, Fail> {
-        match name {
-            "all" => write_text(alloc, self, rest.as_bytes()),
-            "write" => write(alloc, self, rest.as_bytes()),
-            _ => shown(alloc, "has", self.bytes()),
-        }
+fn answer_of_sink(
+    alloc: Global,
+    sink: &mut MemSink,
+    name: &str,
+    rest: &str,
+) -> Result<String, Fail> {
+    match name {
+        "all" => write_text(alloc, sink, rest.as_bytes()),
+        "write" => write(alloc, sink, rest.as_bytes()),
+        _ => shown(alloc, "has", sink.bytes()),
     }
 }
 
 const WRITES: &str = "\
-    all ab->All 0
-    all cd->Failed 1
-    write ef->Took(2) 1
-    bytes ->has [abef]";
+    all ab -> All 0
+    all cd -> Failed 1
+    write ef -> Took(2) 1
+    bytes -> has [abef]";
 
 #[test]
 fn the_listed_write_fails(rt: HostRuntime) -> Result<(), Fail> {
     let failing = Vec::from_slice(rt.alloc(), &[2])?;
-    play(rt.alloc(), &mut MemSink::new(rt.alloc(), failing), WRITES)
+    play(
+        rt.alloc(),
+        &mut MemSink::new(rt.alloc(), failing),
+        answer_of_sink,
+        WRITES,
+    )
 }
 
-impl Answers for FailingCalls {
-    fn answer(&mut self, alloc: Global, _: &str, _: &str) -> Result<String, Fail> {
-        let fails = self.next_fails();
-        Ok(format!(in alloc; "{} fails={fails}", self.calls())?)
-    }
+fn answer(alloc: Global, calls: &mut FailingCalls, _: &str, _: &str) -> Result<String, Fail> {
+    let fails = calls.next_fails();
+    Ok(format!(in alloc; "{} fails={fails}", calls.calls())?)
 }
 
 const CALLS: &str = "\
-    call ->1 fails=false
-    call ->2 fails=true
-    call ->3 fails=false";
+    call -> 1 fails=false
+    call -> 2 fails=true
+    call -> 3 fails=false";
 
 #[test]
 fn calls_are_counted_and_the_listed_one_fails(rt: HostRuntime) -> Result<(), Fail> {
     let mut calls = FailingCalls::new(Vec::from_slice(rt.alloc(), &[2])?);
-    play(rt.alloc(), &mut calls, CALLS)
+    play(rt.alloc(), &mut calls, answer, CALLS)
 }

@@ -1,10 +1,10 @@
 //! Transactions of several votes, and their manager.
 
-use crate::calls::{Answers, play, told};
 use crate::votes::{hash, panel};
 use px_base::{Phase, StorageName, TxId};
 use std::alloc::Global;
 use std::test::Fail;
+use tests_tables::{play, told};
 use txmanager::{Manager, are_lawful_rounds};
 
 // All calls are on this transaction.
@@ -38,60 +38,58 @@ fn register(alloc: Global, manager: &mut Manager, rounds: &str) -> Result<String
     told(alloc, answer)
 }
 
-impl Answers for Manager {
-    fn answer(&mut self, alloc: Global, name: &str, rest: &str) -> Result<String, Fail> {
-        match name {
-            "register" => register(alloc, self, rest),
-            "lawful" => told(alloc, are_lawful_rounds(rest.parse::<u32>()?)),
-            "cast" => cast(alloc, self, rest),
-            "collect" => collect(alloc, self, rest),
-            "outcome" => told(alloc, self.outcome(TX, rest.parse::<u32>()?)),
-            "withdraw" => {
-                told(
-                    alloc,
-                    self.cancel_voter(TX, &StorageName::read(rest.as_bytes())?),
-                )
-            }
-            "stop" => told(alloc, self.stop(TX)),
-            "cancel" => told(alloc, self.cancel(TX)),
-            _ => told(alloc, self.close(TX)),
+fn answer(alloc: Global, manager: &mut Manager, name: &str, rest: &str) -> Result<String, Fail> {
+    match name {
+        "register" => register(alloc, manager, rest),
+        "lawful" => told(alloc, are_lawful_rounds(rest.parse::<u32>()?)),
+        "cast" => cast(alloc, manager, rest),
+        "collect" => collect(alloc, manager, rest),
+        "outcome" => told(alloc, manager.outcome(TX, rest.parse::<u32>()?)),
+        "withdraw" => {
+            told(
+                alloc,
+                manager.cancel_voter(TX, &StorageName::read(rest.as_bytes())?),
+            )
         }
+        "stop" => told(alloc, manager.stop(TX)),
+        "cancel" => told(alloc, manager.cancel(TX)),
+        _ => told(alloc, manager.close(TX)),
     }
 }
 
 const CALLS: &str = "\
-    register 9->Err(BadRounds { n: 9 })
-    lawful 8->true
-    register 1->Ok(())
-    cast a prepared->Ok((1, Open))
-    cast b prepared->Ok((1, Committed(Verdict { hash: \
+    register 9 -> Err(BadRounds { n: 9 })
+    lawful 8 -> true
+    register 1 -> Ok(())
+    cast a prepared -> Ok((1, Open))
+    cast b prepared -> Ok((1, Committed(Verdict { hash: \
         Hash([1, 1, 1, 1, 1, 1, 1, 1, 1, 1, 1, 1, 1, 1, 1, 1, 1, 1, 1, 1]), \
         reached: 2, threshold: 2, total: 2 })))
-    outcome 1->Ok(Commit(Hash([1, 1, 1, 1, 1, 1, 1, 1, 1, 1, 1, 1, 1, 1, 1, 1, 1, 1, 1, 1])))
-    cast a committed->Ok((2, Open))
-    withdraw b->Ok(())
-    collect b 2->Ok(Canceled)
-    outcome 2->Ok(Fail)
-    stop ->Err(Decided)
-    cancel ->Ok(())
-    close ->Ok(())
-    close ->Err(UnknownTx(TxId(7)))";
+    outcome 1 -> Ok(Commit(Hash([1, 1, 1, 1, 1, 1, 1, 1, 1, 1, 1, 1, 1, 1, 1, 1, 1, 1, 1, 1])))
+    cast a committed -> Ok((2, Open))
+    withdraw b -> Ok(())
+    collect b 2 -> Ok(Canceled)
+    outcome 2 -> Ok(Fail)
+    stop -> Err(Decided)
+    cancel -> Ok(())
+    close -> Ok(())
+    close -> Err(UnknownTx(TxId(7)))";
 
 #[test]
 fn a_transaction_is_registered_voted_on_and_closed(rt: HostRuntime) -> Result<(), Fail> {
-    play(rt.alloc(), &mut Manager::new(rt.alloc()), CALLS)
+    play(rt.alloc(), &mut Manager::new(rt.alloc()), answer, CALLS)
 }
 
 // Eight rounds are two votes each, and nine are refused.
 const EIGHT: &str = "\
-    register 8->Ok(())
-    outcome 16->Ok(Open)
-    outcome 17->Err(NoSub(17))
-    cast a prepared->Ok((1, Open))
-    stop ->Ok(())
-    collect a 16->Ok(Stopped)";
+    register 8 -> Ok(())
+    outcome 16 -> Ok(Open)
+    outcome 17 -> Err(NoSub(17))
+    cast a prepared -> Ok((1, Open))
+    stop -> Ok(())
+    collect a 16 -> Ok(Stopped)";
 
 #[test]
 fn a_transaction_has_up_to_eight_rounds(rt: HostRuntime) -> Result<(), Fail> {
-    play(rt.alloc(), &mut Manager::new(rt.alloc()), EIGHT)
+    play(rt.alloc(), &mut Manager::new(rt.alloc()), answer, EIGHT)
 }

@@ -1,25 +1,11 @@
 //! The answers of a node, as words.
 
+use crate::names::word;
+use crate::objects;
 use px_base::{Hash, Lease, Object, PathList, RefList};
 use px_node::{NodeError, NodeRefusal, Snapshot};
 use std::alloc::{AllocError, Global};
 use std::test::Fail;
-
-// A hash by the word that calls have for it. The other votes of the tests, which are by sha1sum, go by
-// their first digits.
-fn word(hash: &Hash) -> &'static str {
-    let text = hash.text();
-    match str::from_utf8(&text).unwrap_or("") {
-        "e69de29bb2d1d6434b8b29ae775ad8c2e48c5391" => "blob",
-        "4b825dc642cb6eb9a060e54bf8d69288fbee4904" => "tree",
-        "486a01e01b4248b74452b5a140fb221f9033e770" => "vote",
-        "0000000000000000000000000000000000000000" => "none",
-        "818c02ab7f981a46980c835a06b95bcfc34cdc3c" => "818c",
-        "32ac3d79786574ba4884a5e481722a2c04419b8c" => "32ac",
-        "906285863665dfcf67ec7159fa7b89dc8cdc0b3b" => "9062",
-        _ => "?",
-    }
-}
 
 // The kind of a refusal.
 fn kind(refusal: &NodeRefusal) -> &'static str {
@@ -106,18 +92,22 @@ pub fn references(alloc: Global, refs: &RefList) -> Result<String, Fail> {
     Ok(text)
 }
 
-/// An object by its size, if there is one.
+/// An object by its word, if there is one.
 pub fn object(alloc: Global, object: &Option<Object>) -> Result<String, Fail> {
     match object {
-        Some(object) => Ok(format!(in alloc; "{} bytes", object.content().len())?),
+        Some(object) => Ok(String::from_str(alloc, objects::word(alloc, object)?)?),
         None => Ok(String::from_str(alloc, "none")?),
     }
 }
 
-/// References, and the number of the objects behind them.
+/// References, and the objects behind them.
 pub fn snapshot(alloc: Global, snapshot: &Snapshot) -> Result<String, Fail> {
-    let refs = references(alloc, &snapshot.refs)?;
-    Ok(format!(in alloc; "{refs} and {}", snapshot.objects.len())?)
+    let mut text = references(alloc, &snapshot.refs)?;
+    add(&mut text, "and")?;
+    for object in snapshot.objects.as_slice() {
+        add(&mut text, objects::word(alloc, object)?)?;
+    }
+    Ok(text)
 }
 
 /// The paths of repositories.

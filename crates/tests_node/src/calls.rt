@@ -1,7 +1,8 @@
 //! The calls of a node, as lines of text.
 
 use crate::answers::{self, done, failed, voted};
-use crate::words::{hash, lease, push, snapshot};
+use crate::names::hash;
+use crate::words::{lease, push, snapshot};
 use px_base::{Lease, RepoPath};
 use px_node::Node;
 use std::alloc::Global;
@@ -10,46 +11,43 @@ use voters::Verdict;
 
 /// What a node answers to a call: its name, a path, and what it carries.
 pub fn answer<N: Node>(alloc: Global, node: &mut N, call: &str) -> Result<String, Fail> {
+    let call = call.trim_start();
+    let (name, rest) = call.split_once(" ").unwrap_or((call, ""));
+    answer_to(alloc, node, name, rest)
+}
+
+fn answer_to<N: Node>(alloc: Global, node: &mut N, name: &str, rest: &str) -> Result<String, Fail> {
     let mut words = Vec::new(alloc);
-    for word in call.split_whitespace() {
+    for word in rest.split_whitespace() {
         words.push(word)?;
     }
-    match words.as_slice() {
-        ["list"] => list(alloc, node),
-        ["faults"] => Ok(format!(in alloc; "{}", node.faults())?),
-        [name, path, rest @ ..] => {
+    match (name, words.as_slice()) {
+        ("list", _) => list(alloc, node),
+        ("faults", _) => Ok(format!(in alloc; "{}", node.faults())?),
+        (_, [path, rest @ ..]) => {
             let repo = RepoPath::read(alloc, path.as_bytes())?;
-            on_repository(alloc, node, *name, &repo, rest)
+            on_repository(alloc, node, name, &repo, rest)
         }
         _ => Err(Fail::new("no such call")),
     }
 }
 
-/// Fails where a call is answered otherwise than wanted.
-pub fn compare(call: &str, told: &str, want: &str) -> Result<(), Fail> {
-    if told == want {
-        return Ok(());
+/// The answers of a node to calls, a line each.
+pub fn answers<N: Node>(alloc: Global, node: &mut N, calls: &str) -> Result<String, Fail> {
+    let mut told = String::new(alloc);
+    for call in calls.lines() {
+        if !told.is_empty() {
+            told.push_str(", ")?;
+        }
+        told.push_str(answer(alloc, node, call)?.as_str())?;
     }
-    Err(Fail::new(format_args!("{call} is answered: {told}")))
-}
-
-/// The call of a line of a table, and the answer that is wanted, which stands behind ` ->` and a space.
-pub fn parts(line: &str) -> Result<(&str, &str), Fail> {
-    match line.trim_start().split_once(" ->") {
-        Some((call, want)) => Ok((call, want.strip_prefix(" ").unwrap_or(want))),
-        None => Err(Fail::new("a line has no answer")),
-    }
+    Ok(told)
 }
 
 /// Makes the calls of a table to a node, and fails at the first one that is answered otherwise than
 /// its line says.
 pub fn play<N: Node>(alloc: Global, node: &mut N, table: &str) -> Result<(), Fail> {
-    for line in table.lines() {
-        let (call, want) = parts(line)?;
-        let told = answer(alloc, node, call)?;
-        compare(call, told.as_str(), want)?;
-    }
-    Ok(())
+    tests_tables::play(alloc, node, answer_to::<N>, table)
 }
 
 fn on_repository<N: Node>(
@@ -162,6 +160,21 @@ fn snapshot_of<N: Node>(alloc: Global, node: &mut N, repo: &RepoPath) -> Result<
 fn list<N: Node>(alloc: Global, node: &mut N) -> Result<String, Fail> {
     match node.list(alloc) {
         Ok(paths) => answers::paths(alloc, &paths),
+        Err(error) => failed(alloc, &error),
+    }
+}
+
+/// Hands a repository on from one node to another, under a lease.
+pub fn hand_on<M: Node, N: Node>(
+    alloc: Global,
+    from: &mut M,
+    to: &mut N,
+    path: &str,
+    number: &str,
+) -> Result<String, Fail> {
+    let repo = RepoPath::read(alloc, path.as_bytes())?;
+    match from.snapshot(alloc, &repo) {
+        Ok(snapshot) => done(alloc, to.apply(alloc, &repo, lease(number)?, &snapshot)),
         Err(error) => failed(alloc, &error),
     }
 }

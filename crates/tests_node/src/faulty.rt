@@ -1,11 +1,11 @@
-//! Nodes that fault at chosen calls, and nodes whose keeper fails.
+//! Nodes that fault at chosen calls.
 
-use crate::calls::{answer, compare, parts};
-use crate::keeper::rows;
+use crate::calls::{answers, play};
 use px_keeper::MemKeeper;
-use px_node::{FaultyNode, Node, PlannedFault, Shelf, When};
+use px_node::{FaultyNode, PlannedFault, Shelf, When};
 use std::alloc::Global;
 use std::test::Fail;
+use tests_tables::{compare, parts};
 
 // A repository with a push that is on its way, and who asks what became of it.
 const PUSH: &str = "\
@@ -13,18 +13,6 @@ const PUSH: &str = "\
     prepare x.git 2 none blob refs/tags/empty +blob
     commit x.git 2 vote
     fence x.git 3";
-
-// The answers of a node to calls.
-fn answers<N: Node>(alloc: Global, node: &mut N, calls: &str) -> Result<String, Fail> {
-    let mut told = String::new(alloc);
-    for call in calls.lines() {
-        if !told.is_empty() {
-            told.push_str(", ")?;
-        }
-        told.push_str(answer(alloc, node, call)?.as_str())?;
-    }
-    Ok(told)
-}
 
 // The answers to that push, where a call faults.
 fn faulted(alloc: Global, call: u64, when: When) -> Result<String, Fail> {
@@ -63,116 +51,106 @@ fn a_planned_fault_comes_before_the_effect_or_after_it(rt: HostRuntime) -> Resul
     Ok(())
 }
 
-// The calls of a node from the first to a removal, each effect once.
+// A fault before each effect, and one after it, each planned by the word in front of its call. What is
+// read behind it shows that before the effect nothing has changed, not the fence either, and that after
+// it the effect is there, by the rules of docs/generations_and_leases.md.
 const EFFECTS: &str = "\
-    create x.git 1
-    prepare x.git 2 none blob refs/tags/empty +blob
-    commit x.git 2 vote
-    abort x.git 3
-    fence x.git 5
-    apply y.git 1 none tree refs/a +tree
-    apply x.git 5 none tree refs/b +tree
-    remove y.git 2";
+    before create x.git 1 -> fault
+    list ->
+    refs x.git -> no repo
+    after create x.git 1 -> fault
+    list -> x.git
+    refs x.git ->
+    create x.git 1 -> fenced 2
 
-// What the effects are answered where a call of the keeper fails, and the same call of the node is done
-// at the second try, as if it were the first; the faults; and the rows that are kept.
-fn kept_by(alloc: Global, failing: u64) -> Result<String, Fail> {
-    let calls = Vec::from_slice(alloc, &[failing])?;
-    let mut node = Shelf::new(alloc, MemKeeper::new(alloc, calls));
-    let told = tried_twice(alloc, &mut node)?;
-    let faults = node.faults();
-    let kept = rows(alloc, &mut node.into_keeper())?;
-    Ok(format!(in alloc; "{told}; {faults}; {kept}")?)
+    before prepare x.git 3 none blob refs/tags/empty +blob -> fault
+    commit x.git 2 vote -> not prepared
+    after prepare x.git 3 none blob refs/tags/empty +blob -> fault
+    commit x.git 2 vote -> fenced 3
+    commit x.git 3 tree -> differs vote
+
+    before commit x.git 3 vote -> fault
+    refs x.git ->
+    fence x.git 3 -> last -
+    after commit x.git 3 vote -> fault
+    refs x.git -> refs/tags/empty=blob
+    object x.git blob -> +blob
+    fence x.git 3 -> last 3
+    commit x.git 3 vote -> fenced 4
+
+    prepare x.git 5 blob tree refs/tags/empty +tree -> 9062
+    before abort x.git 5 -> fault
+    commit x.git 5 vote -> differs 9062
+    after abort x.git 5 -> fault
+    commit x.git 5 9062 -> fenced 6
+    commit x.git 6 9062 -> not prepared
+
+    prepare x.git 6 blob tree refs/tags/empty +tree -> 9062
+    before fence x.git 7 -> fault
+    commit x.git 6 vote -> differs 9062
+    after fence x.git 7 -> fault
+    commit x.git 6 9062 -> fenced 7
+    commit x.git 7 9062 -> not prepared
+    before fence y.git 2 -> fault
+    commit y.git 1 vote -> no repo
+    after fence y.git 2 -> fault
+    commit y.git 1 vote -> fenced 2
+
+    before apply x.git 7 none tree refs/a +tree -> fault
+    snapshot x.git -> refs/tags/empty=blob and +blob
+    object x.git tree -> none
+    commit x.git 7 vote -> not prepared
+    after apply x.git 7 none tree refs/a +tree -> fault
+    snapshot x.git -> refs/a=tree and +tree
+    commit x.git 7 vote -> fenced 8
+
+    before remove x.git 8 -> fault
+    snapshot x.git -> refs/a=tree and +tree
+    commit x.git 8 vote -> not prepared
+    after remove x.git 8 -> fault
+    list ->
+    refs x.git -> no repo
+    commit x.git 8 vote -> fenced 9
+
+    faults -> 16";
+
+// The line without the word in front of its call, and when that says that the call faults.
+fn planned(line: &str) -> (Option<When>, &str) {
+    let line = line.trim_start();
+    match line.split_once(" ") {
+        Some(("before", line)) => (Some(When::Before), line),
+        Some(("after", line)) => (Some(When::After), line),
+        _ => (None, line),
+    }
 }
 
-fn tried_twice<N: Node>(alloc: Global, node: &mut N) -> Result<String, Fail> {
-    let mut told = String::new(alloc);
-    for call in EFFECTS.lines() {
-        if !told.is_empty() {
-            told.push_str(", ")?;
+// The faults that the lines plan; each line is a call.
+fn plan(alloc: Global, lines: &[&str]) -> Result<Vec<PlannedFault>, Fail> {
+    let mut faults = Vec::new(alloc);
+    let mut call = 0u64;
+    for line in lines {
+        call = call.saturating_add(1);
+        if let (Some(when), _) = planned(*line) {
+            faults.push(PlannedFault { call, when })?;
         }
-        told.push_str(again(alloc, node, call)?.as_str())?;
     }
-    Ok(told)
+    Ok(faults)
 }
-
-// What a call is answered at its second try where it faults.
-fn again<N: Node>(alloc: Global, node: &mut N, call: &str) -> Result<String, Fail> {
-    let mut told = answer(alloc, node, call)?;
-    if told.as_str() == "fault" {
-        told = answer(alloc, node, call)?;
-    }
-    Ok(told)
-}
-
-// What it comes to, by hand: each effect is done, one call faulted, and the rows are the fence, the flag
-// and the last lease, and whether it is held; the id of the reference; the kinds and contents of the
-// objects.
-const KEPT: &str = "ok, vote, vote, ok, last 2, ok, ok, ok; 1; \
-    6 782e676974=000000000000000601000000000000000201 \
-    6 792e676974=000000000000000300000000000000000000 \
-    7 782e67697400726566732f62=4b825dc642cb6eb9a060e54bf8d69288fbee4904 \
-    8 782e676974004b825dc642cb6eb9a060e54bf8d69288fbee4904=02 \
-    8 782e67697400e69de29bb2d1d6434b8b29ae775ad8c2e48c5391=03";
 
 #[test]
-fn where_the_keeper_fails_nothing_has_changed(rt: HostRuntime) -> Result<(), Fail> {
+fn what_faults_before_an_effect_does_nothing_and_after_it_all(rt: HostRuntime) -> Result<(), Fail> {
     let alloc = rt.alloc();
-    for failing in 1u64..9 {
-        let kept = kept_by(alloc, failing)?;
-        compare("an effect", kept.as_str(), KEPT)?;
+    let mut lines = Vec::new(alloc);
+    for line in EFFECTS.lines() {
+        if !line.trim().is_empty() {
+            lines.push(line)?;
+        }
+    }
+    let shelf = Shelf::new(alloc, MemKeeper::new(alloc, Vec::new(alloc)));
+    let mut node = FaultyNode::new(shelf, plan(alloc, &lines)?);
+    for line in lines {
+        let (_, line) = planned(line);
+        play(alloc, &mut node, line)?;
     }
     Ok(())
-}
-
-// What a node has, as it tells it.
-const TOLD: &str = "\
-    list
-    snapshot x.git
-    snapshot y.git
-    object x.git blob";
-
-// What a node tells, and its rows.
-fn all_of(alloc: Global, mut node: Shelf<MemKeeper>) -> Result<String, Fail> {
-    let mut all = answers(alloc, &mut node, TOLD)?;
-    all.push_str(rows(alloc, &mut node.into_keeper())?.as_str())?;
-    Ok(all)
-}
-
-// Does at most so many of the effects, up to the first that memory wants for, and counts those done.
-fn play<N: Node>(alloc: Global, node: &mut N, most: u64) -> Result<u64, Fail> {
-    let mut done = 0u64;
-    for call in EFFECTS.lines() {
-        if done == most || answer(alloc, node, call)?.as_str() == "memory" {
-            break;
-        }
-        done = done.saturating_add(1);
-    }
-    Ok(done)
-}
-
-// What a node has after them, and their count.
-fn after(alloc: Global, most: u64) -> Result<(u64, String), Fail> {
-    let mut node = Shelf::new(alloc, MemKeeper::new(alloc, Vec::new(alloc)));
-    let done = play(alloc, &mut node, most)?;
-    Ok((done, all_of(alloc, node)?))
-}
-
-// Whether memory wanted while that was told.
-fn is_cut(told: &str) -> bool {
-    told.contains("memory") || told.contains("failed")
-}
-
-// Memory wants where `rt try --test --fail-alloc` makes it.
-#[test]
-fn where_memory_wants_nothing_has_changed(rt: HostRuntime) -> Result<(), Fail> {
-    let (done, told) = after(rt.alloc(), 8)?;
-    let (again, wanted) = after(rt.alloc(), done)?;
-    // Where it wants for no effect of the first round, it may want while a node tells, or in the second
-    // round, which has not come as far then. It wants once.
-    let late = again < done || is_cut(told.as_str()) || is_cut(wanted.as_str());
-    if done == 8 && late {
-        return Ok(());
-    }
-    compare("what is there", told.as_str(), wanted.as_str())
 }

@@ -1,6 +1,5 @@
 //! Values as bytes.
 
-use crate::calls::{compare, parts};
 use px_base::{Bytes, Kind};
 use px_fields::{
     add_flag, add_kind, add_optional_u32, add_optional_u64, add_text, add_u32, add_u64, flag_at,
@@ -10,6 +9,7 @@ use px_fields::{
 use std::alloc::{AllocError, Global};
 use std::fmt::Display;
 use std::test::Fail;
+use tests_tables::play;
 
 const KINDS: [(&str, Kind); 4] = [
     ("commit", Kind::Commit),
@@ -18,31 +18,54 @@ const KINDS: [(&str, Kind); 4] = [
     ("tag", Kind::Tag),
 ];
 
-// The bytes of a value, given as a word for what it is and the value.
-fn written(alloc: Global, what: &str, value: &str) -> Result<Bytes, Fail> {
-    let mut bytes = Bytes::new(alloc);
-    match (what, value) {
-        ("u32", _) => add_u32(&mut bytes, value.parse::<u32>()?)?,
-        ("u64", _) => add_u64(&mut bytes, value.parse::<u64>()?)?,
-        ("flag", _) => add_flag(&mut bytes, value == "yes")?,
-        ("maybe32", "-") => add_optional_u32(&mut bytes, None)?,
-        ("maybe32", _) => add_optional_u32(&mut bytes, Some(value.parse::<u32>()?))?,
-        ("maybe64", "-") => add_optional_u64(&mut bytes, None)?,
-        ("maybe64", _) => add_optional_u64(&mut bytes, Some(value.parse::<u64>()?))?,
-        ("kind", _) => {
-            for (name, kind) in KINDS {
-                if name == value {
-                    add_kind(&mut bytes, kind)?;
-                }
-            }
-        }
-        _ => {
-            if value.len() < 65536 {
-                add_text(&mut bytes, value.as_bytes())?;
-            }
+// Adds a value, given as a word for what it is and the value.
+fn add(bytes: &mut Bytes, what: &str, value: &str) -> Result<(), Fail> {
+    Ok(match what {
+        "u32" => add_u32(bytes, value.parse::<u32>()?)?,
+        "u64" => add_u64(bytes, value.parse::<u64>()?)?,
+        "flag" => add_flag(bytes, value == "yes")?,
+        "maybe32" => add_maybe_u32(bytes, value)?,
+        "maybe64" => add_maybe_u64(bytes, value)?,
+        "kind" => add_kind_of(bytes, value)?,
+        _ => add_short_text(bytes, value)?,
+    })
+}
+
+fn add_maybe_u32(bytes: &mut Bytes, value: &str) -> Result<(), Fail> {
+    match value {
+        "-" => Ok(add_optional_u32(bytes, None)?),
+        _ => Ok(add_optional_u32(bytes, Some(value.parse::<u32>()?))?),
+    }
+}
+
+fn add_maybe_u64(bytes: &mut Bytes, value: &str) -> Result<(), Fail> {
+    match value {
+        "-" => Ok(add_optional_u64(bytes, None)?),
+        _ => Ok(add_optional_u64(bytes, Some(value.parse::<u64>()?))?),
+    }
+}
+
+fn add_kind_of(bytes: &mut Bytes, value: &str) -> Result<(), AllocError> {
+    for (name, kind) in KINDS {
+        if name == value {
+            return add_kind(bytes, kind);
         }
     }
-    Ok(bytes)
+    Ok(())
+}
+
+fn add_short_text(bytes: &mut Bytes, value: &str) -> Result<(), AllocError> {
+    if value.len() < 65536 {
+        return add_text(bytes, value.as_bytes());
+    }
+    Ok(())
+}
+
+// A value that was added, in hexadecimal.
+fn written(alloc: Global, _: &mut (), what: &str, value: &str) -> Result<String, Fail> {
+    let mut bytes = Bytes::new(alloc);
+    add(&mut bytes, what, value)?;
+    Ok(hex::encode(alloc, bytes.as_slice())?)
 }
 
 // A value that was read, and what stands behind it in hexadecimal.
@@ -151,6 +174,12 @@ fn told(alloc: Global, what: &str, bytes: &[u8]) -> Result<String, AllocError> {
     }
 }
 
+// What bytes in hexadecimal begin with, given a word for what is looked for.
+fn read(alloc: Global, _: &mut (), what: &str, text: &str) -> Result<String, Fail> {
+    let bytes = hex::decode(alloc, text)?;
+    Ok(told(alloc, what, &bytes)?)
+}
+
 // Each value with the bytes that it is written as.
 const WRITTEN: &str = "\
     u32 0 -> 00000000
@@ -172,17 +201,7 @@ const WRITTEN: &str = "\
 
 #[test]
 fn values_are_written_with_the_highest_byte_first(rt: HostRuntime) -> Result<(), Fail> {
-    for line in WRITTEN.lines() {
-        let (call, want) = parts(line)?;
-        let (what, value) = call.split_once(" ").unwrap_or((call, ""));
-        let bytes = written(rt.alloc(), what, value)?;
-        compare(
-            call,
-            hex::encode(rt.alloc(), bytes.as_slice())?.as_str(),
-            want,
-        )?;
-    }
-    Ok(())
+    play(rt.alloc(), &mut (), written, WRITTEN)
 }
 
 // Bytes with what they begin with, and what stands behind it.
@@ -222,11 +241,5 @@ const READ: &str = "\
 
 #[test]
 fn the_first_bytes_are_the_value_or_none(rt: HostRuntime) -> Result<(), Fail> {
-    for line in READ.lines() {
-        let (call, want) = parts(line)?;
-        let (what, text) = call.split_once(" ").unwrap_or((call, ""));
-        let bytes = hex::decode(rt.alloc(), text)?;
-        compare(call, told(rt.alloc(), what, &bytes)?.as_str(), want)?;
-    }
-    Ok(())
+    play(rt.alloc(), &mut (), read, READ)
 }

@@ -1,12 +1,13 @@
 //! The keepers in memory.
 
 use crate::answers::add;
-use crate::calls::{compare, parts};
+use crate::calls;
 use px_base::Bytes;
 use px_keeper::{ArmedKeeper, Batch, KeepFault, Keeper, MemKeeper, SureKeeper};
 use px_node::Shelf;
 use std::alloc::{AllocError, Global};
 use std::test::Fail;
+use tests_tables::play;
 
 // A row as `TABLE KEY=VALUE`, key and value in hexadecimal.
 fn row(alloc: Global, table: u8, key: &Bytes, value: &Bytes) -> Result<String, AllocError> {
@@ -57,12 +58,13 @@ fn batch(alloc: Global, words: &str) -> Result<Batch, AllocError> {
 // The length of a batch, and what committing it comes to.
 fn commit<K: Keeper>(alloc: Global, keeper: &mut K, words: &str) -> Result<String, AllocError> {
     let batch = batch(alloc, words)?;
-    let word = match keeper.commit(&batch) {
+    let changes = batch.len();
+    let word = match keeper.commit(batch) {
         Ok(()) => "ok",
         Err(KeepFault::Failed) => "failed",
         Err(KeepFault::Memory) => "memory",
     };
-    format!(in alloc; "{} {word}", batch.len())
+    format!(in alloc; "{changes} {word}")
 }
 
 // The value of a row, given as a digit for the table and a letter for the key.
@@ -91,64 +93,53 @@ fn scan<K: Keeper>(alloc: Global, keeper: &mut K, after: &str) -> Result<String,
 }
 
 // What any keeper answers to a call.
-fn answer<K: Keeper>(alloc: Global, keeper: &mut K, call: &str) -> Result<String, AllocError> {
-    let (name, words) = call.split_once(" ").unwrap_or((call, ""));
+fn answer<K: Keeper>(
+    alloc: Global,
+    keeper: &mut K,
+    name: &str,
+    words: &str,
+) -> Result<String, Fail> {
+    Ok(match name {
+        "commit" => commit(alloc, keeper, words)?,
+        "get" => get(alloc, keeper, words)?,
+        "scan" => scan(alloc, keeper, words)?,
+        "faults" => format!(in alloc; "{}", keeper.faults())?,
+        "rows" => rows(alloc, keeper)?,
+        _ => return Err(Fail::new("no such call")),
+    })
+}
+
+// What one with listed failures answers.
+fn answer_of_listed(
+    alloc: Global,
+    keeper: &mut MemKeeper,
+    name: &str,
+    words: &str,
+) -> Result<String, Fail> {
     match name {
-        "commit" => commit(alloc, keeper, words),
-        "get" => get(alloc, keeper, words),
-        "scan" => scan(alloc, keeper, words),
-        "faults" => format!(in alloc; "{}", keeper.faults()),
-        "rows" => rows(alloc, keeper),
-        _ => String::from_str(alloc, "no such call"),
+        "calls" => Ok(format!(in alloc; "{}", keeper.calls())?),
+        _ => answer(alloc, keeper, name, words),
     }
 }
 
-// A keeper that calls of a table are made to.
-trait Called {
-    fn called(&mut self, alloc: Global, call: &str) -> Result<String, AllocError>;
-}
-
-impl Called for MemKeeper {
-    fn called(&mut self, alloc: Global, call: &str) -> Result<String, AllocError> {
-        match call {
-            "calls" => format!(in alloc; "{}", self.calls()),
-            _ => answer(alloc, self, call),
-        }
+// What one that can be armed answers.
+fn answer_of_armed(
+    alloc: Global,
+    keeper: &mut ArmedKeeper,
+    name: &str,
+    words: &str,
+) -> Result<String, Fail> {
+    if name == "arm" {
+        keeper.arm();
+        return Ok(String::from_str(alloc, "armed")?);
     }
-}
-
-impl Called for SureKeeper {
-    fn called(&mut self, alloc: Global, call: &str) -> Result<String, AllocError> {
-        answer(alloc, self, call)
-    }
-}
-
-impl Called for ArmedKeeper {
-    fn called(&mut self, alloc: Global, call: &str) -> Result<String, AllocError> {
-        match call {
-            "arm" => {
-                self.arm();
-                String::from_str(alloc, "armed")
-            }
-            _ => answer(alloc, self, call),
-        }
-    }
-}
-
-// Makes the calls of a table to a keeper.
-fn play<K: Called>(alloc: Global, keeper: &mut K, table: &str) -> Result<(), Fail> {
-    for line in table.lines() {
-        let (call, want) = parts(line)?;
-        let told = keeper.called(alloc, call)?;
-        compare(call, told.as_str(), want)?;
-    }
-    Ok(())
+    answer(alloc, keeper, name, words)
 }
 
 // Makes the calls of a table to a keeper that has no rows, and of which these calls fail.
 fn play_at_first(alloc: Global, failing: &[u64], table: &str) -> Result<(), Fail> {
     let mut keeper = MemKeeper::new(alloc, Vec::from_slice(alloc, failing)?);
-    play(alloc, &mut keeper, table)
+    play(alloc, &mut keeper, answer_of_listed, table)
 }
 
 const WHOLE: &str = "\
@@ -168,7 +159,13 @@ fn a_batch_is_kept_whole_and_in_order(rt: HostRuntime) -> Result<(), Fail> {
 
 #[test]
 fn a_keeper_that_is_sure_keeps_rows_and_never_fails(rt: HostRuntime) -> Result<(), Fail> {
-    play(rt.alloc(), &mut SureKeeper::new(rt.alloc()), WHOLE)
+    let alloc = rt.alloc();
+    play(
+        alloc,
+        &mut SureKeeper::new(alloc),
+        answer::<SureKeeper>,
+        WHOLE,
+    )
 }
 
 const FAILING: &str = "\
@@ -222,7 +219,57 @@ const ARMED: &str = "\
 
 #[test]
 fn an_armed_keeper_fails_at_its_next_commit_alone(rt: HostRuntime) -> Result<(), Fail> {
-    play(rt.alloc(), &mut ArmedKeeper::new(rt.alloc()), ARMED)
+    let alloc = rt.alloc();
+    play(alloc, &mut ArmedKeeper::new(alloc), answer_of_armed, ARMED)
+}
+
+// A text of 300 digits that ends in the number.
+fn long_text(alloc: Global, number: u64) -> Result<String, AllocError> {
+    format!(in alloc; "{number:0300}")
+}
+
+// Puts 1200 rows by one batch, each with a key of 300 bytes, and fails where a value is not read again.
+fn keeps_many<K: Keeper>(alloc: Global, keeper: &mut K) -> Result<(), Fail> {
+    let mut batch = Batch::new(alloc);
+    for number in 0u64..1200 {
+        let text = long_text(alloc, number)?;
+        batch.put(alloc, 6, text.as_bytes(), text.as_bytes())?;
+    }
+    keeper.commit(batch)?;
+    for number in 0u64..1200 {
+        let text = long_text(alloc, number)?;
+        has_value(alloc, keeper, text.as_bytes(), text.as_bytes())?;
+    }
+    Ok(())
+}
+
+fn has_value<K: Keeper>(
+    alloc: Global,
+    keeper: &mut K,
+    key: &[u8],
+    want: &[u8],
+) -> Result<(), Fail> {
+    match keeper.get(alloc, 6, key)? {
+        Some(value) if value.as_slice() == want => Ok(()),
+        _ => Err(Fail::new("another value")),
+    }
+}
+
+// Puts a value of 100,000 bytes, and fails where it is not read again.
+fn keeps_long<K: Keeper>(alloc: Global, keeper: &mut K) -> Result<(), Fail> {
+    let value = vec![in alloc; 7u8; 100000]?;
+    let mut batch = Batch::new(alloc);
+    batch.put(alloc, 6, b"long", &value)?;
+    keeper.commit(batch)?;
+    has_value(alloc, keeper, b"long", &value)
+}
+
+#[test]
+fn many_rows_and_long_ones_are_kept(rt: HostRuntime) -> Result<(), Fail> {
+    let alloc = rt.alloc();
+    let mut keeper = SureKeeper::new(alloc);
+    keeps_many(alloc, &mut keeper)?;
+    keeps_long(alloc, &mut keeper)
 }
 
 // The fault comes at the first effect, which is then as if it had not been asked for.
@@ -239,7 +286,7 @@ fn a_node_is_opened_over_an_armed_keeper_and_faults_once(rt: HostRuntime) -> Res
     let mut keeper = ArmedKeeper::new(rt.alloc());
     keeper.arm();
     match Shelf::open(rt.alloc(), keeper) {
-        Ok(mut node) => crate::calls::play(rt.alloc(), &mut node, OVER_ARMED),
+        Ok(mut node) => calls::play(rt.alloc(), &mut node, OVER_ARMED),
         Err(_) => Err(Fail::new("the node was not opened")),
     }
 }

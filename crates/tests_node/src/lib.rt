@@ -6,13 +6,23 @@ mod answers;
 #[cfg(test)]
 mod calls;
 #[cfg(test)]
+mod failing;
+#[cfg(test)]
 mod faulty;
 #[cfg(test)]
 mod fields;
 #[cfg(test)]
 mod keeper;
 #[cfg(test)]
+mod many;
+#[cfg(test)]
+mod names;
+#[cfg(test)]
+mod objects;
+#[cfg(test)]
 mod opening;
+#[cfg(test)]
+mod pushes;
 #[cfg(test)]
 mod shelf;
 #[cfg(test)]

@@ -1,24 +1,26 @@
 //! Nodes that are opened over the rows that a keeper has.
 
-use crate::calls::{compare, play};
+use crate::calls::play;
 use crate::keeper::rows;
 use crate::shelf::CALLS;
 use px_keeper::{Batch, Keeper, MemKeeper};
 use px_node::{OpenFault, Shelf};
 use std::alloc::{AllocError, Global};
 use std::test::Fail;
+use tests_tables::compare;
 
 // Makes the calls of a table to a node that has nothing, and those of another one to the node that is
 // opened over what it left.
 fn play_twice(alloc: Global, before: &str, after: &str) -> Result<(), Fail> {
     let mut node = Shelf::new(alloc, MemKeeper::new(alloc, Vec::new(alloc)));
     play(alloc, &mut node, before)?;
-    play_again(alloc, node.into_keeper(), after)
+    play(alloc, &mut opened_again(alloc, node)?, after)
 }
 
-fn play_again(alloc: Global, keeper: MemKeeper, table: &str) -> Result<(), Fail> {
-    match Shelf::open(alloc, keeper) {
-        Ok(mut node) => play(alloc, &mut node, table),
+/// The node that is opened over the rows that a node leaves.
+pub fn opened_again(alloc: Global, node: Shelf<MemKeeper>) -> Result<Shelf<MemKeeper>, Fail> {
+    match Shelf::open(alloc, node.into_keeper()) {
+        Ok(node) => Ok(node),
         Err(_) => Err(Fail::new("the node was not opened")),
     }
 }
@@ -46,7 +48,7 @@ const KEPT: &str = "\
     commit x.git 2 vote -> fenced 3
     commit x.git 3 vote -> not prepared
     refs x.git -> refs/tags/empty=blob
-    snapshot x.git -> refs/tags/empty=blob and 1
+    snapshot x.git -> refs/tags/empty=blob and +blob
     object x.git tree -> none
     fence x.git 4 -> last 2";
 
@@ -84,7 +86,7 @@ fn keeper_of(alloc: Global, text: &str, failing: Vec<u64>) -> Result<MemKeeper, 
     put_rows(alloc, &mut batch, GOOD)?;
     put_rows(alloc, &mut batch, text)?;
     let mut keeper = MemKeeper::new(alloc, failing);
-    keeper.commit(&batch)?;
+    keeper.commit(batch)?;
     Ok(keeper)
 }
 
@@ -243,6 +245,24 @@ const FIRST_BAD_ROWS: &str = "\
 #[test]
 fn of_several_bad_rows_the_one_in_the_earliest_place_is_named(rt: HostRuntime) -> Result<(), Fail> {
     open_each(rt.alloc(), FIRST_BAD_ROWS)
+}
+
+// The rows of 1200 repositories, each as if it were never heard of.
+fn keeper_of_many(alloc: Global) -> Result<MemKeeper, Fail> {
+    let mut batch = Batch::new(alloc);
+    for number in 0u64..1200 {
+        let path = format!(in alloc; "{number}.git")?;
+        batch.put(alloc, 6, path.as_bytes(), &[0; 18])?;
+    }
+    let mut keeper = MemKeeper::new(alloc, Vec::new(alloc));
+    keeper.commit(batch)?;
+    Ok(keeper)
+}
+
+#[test]
+fn many_rows_are_taken_over(rt: HostRuntime) -> Result<(), Fail> {
+    let (told, _) = opened(rt.alloc(), keeper_of_many(rt.alloc())?);
+    compare("an opening", told?.as_str(), "ok")
 }
 
 // What opening comes to over the good rows where a call of the keeper fails.

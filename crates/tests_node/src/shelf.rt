@@ -28,7 +28,7 @@ pub const CALLS: &str = "\
     create y.git 7 -> ok
     list -> x.git y.git
     refs x.git -> refs/tags/empty=blob
-    snapshot x.git -> refs/tags/empty=blob and 1
+    snapshot x.git -> refs/tags/empty=blob and +blob
     remove x.git 5 -> ok
     refs x.git -> no repo
     list -> y.git
@@ -68,9 +68,9 @@ const REFUSED: &str = "\
     commit x.git 3 vote -> fenced 4
     fence x.git 5 -> last -
     commit x.git 5 vote -> not prepared
-    object x.git tree -> 0 bytes
+    object x.git tree -> +tree
     object x.git vote -> none
-    snapshot x.git -> refs/a=blob and 1";
+    snapshot x.git -> refs/a=blob and +blob";
 
 #[test]
 fn a_node_refuses_in_order(rt: HostRuntime) -> Result<(), Fail> {

@@ -1,26 +1,12 @@
 //! The words of a call, read.
 
-use px_base::{Bytes, Hash, Kind, Lease, Object, Objects, Push, RefList, RefName, Update, Updates};
+use crate::names::hash;
+use crate::objects::objects;
+use px_base::{Lease, Push, RefList, RefName, Update, Updates};
 use px_node::Snapshot;
 use refstore::{Prepared, Refs};
 use std::alloc::Global;
 use std::test::Fail;
-
-/// An object by a word: the empty blob, the empty tree, the vote on the first push of the tests, or
-/// zeros.
-pub fn hash(word: &str) -> Result<Hash, Fail> {
-    let text = match word {
-        "blob" => "e69de29bb2d1d6434b8b29ae775ad8c2e48c5391",
-        "tree" => "4b825dc642cb6eb9a060e54bf8d69288fbee4904",
-        "vote" => "486a01e01b4248b74452b5a140fb221f9033e770",
-        "none" => "0000000000000000000000000000000000000000",
-        _ => "",
-    };
-    match Hash::read(text.as_bytes()) {
-        Some(hash) => Ok(hash),
-        None => Err(Fail::new("no hash")),
-    }
-}
 
 /// A lease by its number.
 pub fn lease(word: &str) -> Result<Lease, Fail> {
@@ -30,43 +16,33 @@ pub fn lease(word: &str) -> Result<Lease, Fail> {
     }
 }
 
-// The object that a word names: the empty blob, the empty tree, or a tree that is broken.
-fn object(alloc: Global, word: &str) -> Result<Option<Object>, Fail> {
-    let (kind, content): (Kind, &[u8]) = match word {
-        "+blob" => (Kind::Blob, b""),
-        "+tree" => (Kind::Tree, b""),
-        "+bad" => (Kind::Tree, b"100648 a"),
-        _ => return Ok(None),
-    };
-    Ok(Object::new(kind, Bytes::from_slice(alloc, content)?))
+// One update, as OLD, NEW and NAME.
+fn update(alloc: Global, words: &[&str]) -> Result<Update, Fail> {
+    match words {
+        [old, new, name] => {
+            let (old, new) = (hash(*old)?, hash(*new)?);
+            let name = RefName::read(alloc, name.as_bytes())?;
+            Ok(Update { old, new, name })
+        }
+        _ => Err(Fail::new("no update")),
+    }
 }
 
-// The objects that the words name.
-fn objects(alloc: Global, words: &[&str]) -> Result<Objects, Fail> {
-    let mut objects = Objects::new(alloc);
-    for word in words {
-        if let Some(object) = object(alloc, *word)? {
-            objects.push(object)?;
+// Updates, each as OLD, NEW and NAME, up to the first object.
+fn updates(alloc: Global, words: &[&str]) -> Result<Updates, Fail> {
+    let mut updates = Updates::new(alloc);
+    for words in words.chunks(3) {
+        match words {
+            [first, ..] if first.starts_with("+") => break,
+            _ => updates.push(update(alloc, words)?)?,
         }
     }
-    Ok(objects)
+    Ok(updates)
 }
 
-// One update, as OLD, NEW and NAME.
-fn update(alloc: Global, old: &str, new: &str, name: &str) -> Result<Update, Fail> {
-    Ok(Update {
-        old: hash(old)?,
-        new: hash(new)?,
-        name: RefName::read(alloc, name.as_bytes())?,
-    })
-}
-
-/// At most one update, as OLD, NEW and NAME, and the objects behind it.
+/// Updates, and the objects behind them.
 pub fn push(alloc: Global, words: &[&str]) -> Result<Push, Fail> {
-    let mut updates = Updates::new(alloc);
-    if let [old, new, name, ..] = words {
-        updates.push(update(alloc, *old, *new, *name)?)?;
-    }
+    let updates = updates(alloc, words)?;
     let objects = objects(alloc, words)?;
     Ok(Push { updates, objects })
 }
@@ -80,7 +56,7 @@ fn references(alloc: Global, updates: &[Update]) -> Result<RefList, Fail> {
     Ok(refs.list(alloc)?)
 }
 
-/// The references that one creation leaves, and the objects behind it.
+/// The references that creations leave, and the objects behind them.
 pub fn snapshot(alloc: Global, words: &[&str]) -> Result<Snapshot, Fail> {
     let push = push(alloc, words)?;
     let refs = references(alloc, push.updates.as_slice())?;

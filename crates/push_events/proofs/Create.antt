@@ -2,12 +2,13 @@
 use Rattle.std.proofs.Common.{◌≡◌, ℕ, ◌+◌, ◌≤◌, Option, Some, None, Bool, true, false, inl, inr, refl, sym, ◌∙◌, ap, subst, arith}
 use Rattle.replica_invariant.specs.Booking.{Absent, At, Doubt}
 use Rattle.replica_invariant.specs.Contents.{Content, empty, Updates, Vote}
-use Rattle.replica_invariant.specs.Creations.{CanCreate, created, CreateKeeps, drawn, FirstCreateKeeps, IsFromBefore, opening}
+use Rattle.replica_invariant.specs.Creations.{CanCreate, created, CreateKeeps, drawn, FirstCreateKeeps, opening}
 use Rattle.replica_invariant.specs.Invariant.{Invariant, IsUntouched, LogClause, PushClause, SourceClause}
 use Rattle.replica_invariant.specs.Purposes.{Apply, Commit, Create, Creation, Effect, effect, Fencing, is_committed, is_creation, Pushing, Remove, Unused, Updating}
-use Rattle.replica_invariant.specs.ReplicaClauses.{FitsCommit, FitsEffect, HasLevel, IsApplied, IsIssued, IsMade, IsSnapshot, JobClause, QuietBelow, ReplicaClauses}
+use Rattle.replica_invariant.specs.ReplicaClauses.{FitsCommit, FitsEffect, IsApplied, IsIssued, IsMade, IsSnapshot, JobClause, ReplicaClauses}
 use Rattle.replica_invariant.specs.State.{AtNode, Replica, Shared, State}
 use Rattle.push_events.proofs.Purposes.{fence_over, IsUpdate, source_keeps, update_over}
+use Rattle.push_events.proofs.Untouched.{untouched_ok}
 use Rattle.push_events.proofs.Values.{choose, none_some, three, value_case, value_elsewhere}
 
 -- what a replica is where all are absent
@@ -282,66 +283,18 @@ create_keeps st m i c =
     }) b.newest b.idle
     (i.log.zero_content b.some) i.shape.fresh i.source c
 
-opening_clauses : (node : ℕ → AtNode) (text : ℕ → Vote → Updates) (admitted s : ℕ)
-    → IsFromBefore (node s) text
-    → ReplicaClauses (opening node text admitted).shared ((opening node text admitted).replica s)
-opening_clauses node text admitted s f =
-    let sh = (opening node text admitted).shared in
-    let r = (opening node text admitted).replica s in record {
-      book = record {
-        floor = λ x e. none_some (x ≤ 0) e;
-        at = λ g e. absurd (let z : Absent ≡ At g = e in cc);
-        doubt = λ a w d e. absurd (let z : Absent ≡ Doubt a w d = e in cc);
-        applies = λ l g e. none_some (g ≤ 0) e;
-      };
-      lease = record {
-        kept = omega arith;
-        zero = refl;
-        drawn = λ l a. refl;
-        fence = λ e. absurd (let z : false ≡ true = e in cc);
-        committed = f.committed;
-      };
-      node = record {
-        bare = λ e. refl;
-        level = λ k e. none_some (HasLevel sh r k) e;
-        early = λ a b. refl;
-      };
-      live = record {
-        fits = λ l e a q. none_some (FitsEffect r l e) q;
-        doubt = λ a w d e. absurd (let z : Absent ≡ Doubt a w d = e in cc);
-        commit = λ l n x a q. none_some (QuietBelow r l) q;
-      };
-      commit =
-          record {
-            begun = λ l n x a e. absurd (let z : Unused ≡ Pushing n x a = e in cc);
-            issued = λ l n x e. none_some (IsIssued sh l n x) e;
-            answered = λ l e. absurd (let z : false ≡ true = e in cc);
-          };
-      doubt = record {
-        early = λ a w d e. absurd (let z : Absent ≡ Doubt a w d = e in cc);
-        late = λ a w d e. absurd (let z : Absent ≡ Doubt a w d = e in cc);
-      };
-      ready = λ p e. let v = f.ready p e in
-          record { held = v.0; fence = v.1; content = v.2; text = v.3 };
-      create =
-          record {
-            creating = λ l e. absurd (let z : false ≡ true = e in cc);
-            early = λ l a e. refl;
-            made = λ l e. absurd (let z : Unused ≡ Creation true = e in cc);
-            fresh = λ a b e. refl;
-          };
-      copy = record {
-        snapshot =
-            λ l s g y z w e. absurd (let u : Unused ≡ Updating s g (Some (y, z)) w = e in cc);
-        answered = λ l s g y e q. absurd (let u : Unused ≡ Updating s g y true = e in cc);
-      };
-      fencing =
-          record {
-            reached = λ l x e. absurd (let z : Unused ≡ Fencing (Some x) = e in cc);
-            same = λ l x e q. absurd (let z : Unused ≡ Fencing (Some x) = e in cc);
-          };
-      job = λ j e. none_some (JobClause 0 0 r.purpose Absent None j) e;
-    }
+-- nothing is recorded of a replica of a repository that comes on record
+opening_untouched : (node : ℕ → AtNode) (text : ℕ → Vote → Updates) (admitted s : ℕ)
+    → IsUntouched ((opening node text admitted).replica s)
+opening_untouched node text admitted s = record {
+  kept = refl;
+  booking = refl;
+  floor = refl;
+  level = refl;
+  had = refl;
+  purpose = λ l. refl;
+  job = refl;
+}
 
 pub first_create_keeps : FirstCreateKeeps
 first_create_keeps node text admitted m fresh c =
@@ -359,16 +312,8 @@ first_create_keeps node text admitted m fresh c =
       floor = refl;
       creation = refl;
       job = refl;
-      ok = opening_clauses node text admitted s (fresh s);
+      ok = untouched_ok st.shared (st.replica s) (opening_untouched node text admitted s) (fresh s);
     })
     refl refl refl
-    (λ s a. record {
-      kept = refl;
-      booking = refl;
-      floor = refl;
-      level = refl;
-      had = refl;
-      purpose = λ l. refl;
-      job = refl;
-    })
+    (λ s a. opening_untouched node text admitted s)
     (λ t l s g x a e. absurd (let z : Unused ≡ Updating s g x a = e in cc)) c

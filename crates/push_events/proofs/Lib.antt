@@ -13,9 +13,11 @@ pub mod Filled
 pub mod Commit
 pub mod Begin
 pub mod Confirm
+pub mod Votes
 pub mod Join
 pub mod Small
 pub mod Issue
 pub mod Make
+pub mod Untouched
 pub mod Create
 pub mod Storages

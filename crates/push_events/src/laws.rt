@@ -1,7 +1,7 @@
 //! Each law is a function with nothing in it: what it ensures is proved for all values.
 
-ghost use Rattle.replica_invariant.specs.Creations.{AdmitKeeps, AssignKeeps, CreateKeeps, EnrolKeeps, FirstCreateKeeps, MakeKeeps};
-ghost use Rattle.replica_invariant.specs.Pushes.{AbortKeeps, BeginKeeps, CommitKeeps, ConfirmKeeps, DecideKeeps, FinishKeeps, IssueKeeps, JoinKeeps, LoseKeeps, PrepareKeeps};
+ghost use Rattle.replica_invariant.specs.Creations.{AdmitKeeps, AppearKeeps, AssignKeeps, CreateKeeps, EnrolKeeps, FirstCreateKeeps, MakeKeeps};
+ghost use Rattle.replica_invariant.specs.Pushes.{AbortKeeps, BeginKeeps, CommitKeeps, ConfirmKeeps, DecideKeeps, FinishKeeps, IssueKeeps, JoinKeeps, LoseKeeps, PrepareKeeps, VotesKeep};
 
 /// A repository that is created for the first time has the invariant, over whatever the nodes have
 /// of its path.
@@ -27,6 +27,12 @@ pub fn enrol_keeps()
 /// So does the admission of a storage.
 pub fn admit_keeps()
     ensures { AdmitKeeps }
+{}
+
+/// So does a node that appears where nothing was ever recorded of the replica, with whatever calls
+/// made of an empty one.
+pub fn appear_keeps()
+    ensures { AppearKeeps }
 {}
 
 /// So does another factor.
@@ -78,6 +84,11 @@ pub fn commit_keeps()
 /// So does the vote of a member for the decided hash in the committed phase.
 pub fn confirm_keeps()
     ensures { ConfirmKeeps }
+{}
+
+/// So do votes of the committed phase by which nothing is booked.
+pub fn votes_keep()
+    ensures { VotesKeep }
 {}
 
 /// So does the end of a push, and a restart, which drops it.

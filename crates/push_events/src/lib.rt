@@ -5,7 +5,7 @@
 mod laws;
 
 pub use laws::{
-    abort_keeps, admit_keeps, assign_keeps, begin_keeps, commit_keeps, confirm_keeps, create_keeps,
-    decide_keeps, enrol_keeps, finish_keeps, first_create_keeps, issue_keeps, join_keeps,
-    lose_keeps, make_keeps, prepare_keeps,
+    abort_keeps, admit_keeps, appear_keeps, assign_keeps, begin_keeps, commit_keeps, confirm_keeps,
+    create_keeps, decide_keeps, enrol_keeps, finish_keeps, first_create_keeps, issue_keeps,
+    join_keeps, lose_keeps, make_keeps, prepare_keeps, votes_keep,
 };

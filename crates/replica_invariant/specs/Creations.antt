@@ -3,7 +3,7 @@
 use Rattle.std.specs.Prelude.{◌≡◌, ℕ, ◌+◌, ◌≤◌, ◌<◌, Some, None, Bool, true, false, if◌then◌else◌}
 use Rattle.replica_invariant.specs.Booking.{Absent, At}
 use Rattle.replica_invariant.specs.Contents.{Updates, Vote, after, empty, undecided, vote}
-use Rattle.replica_invariant.specs.Invariant.{Invariant}
+use Rattle.replica_invariant.specs.Invariant.{Invariant, IsUntouched}
 use Rattle.replica_invariant.specs.Purposes.{Purpose, Unused, Creation}
 use Rattle.replica_invariant.specs.State.{AtNode, ReadyPush, Replica, Shared, State, with_replica, with_value}
 
@@ -130,3 +130,14 @@ AssignKeeps = (state : State) (chosen : ℕ → Bool) → Invariant state
     → ((storage : ℕ) × (chosen storage ≡ true))
     → ((storage : ℕ) → state.admitted ≤ storage → chosen storage ≡ false)
     → Invariant (record state { assigned = chosen })
+
+-- ---- a node appears where nothing was ever recorded of the replica, as that of a storage that is
+-- admitted: it may hold something at that path
+
+abbrev pub with_node : Replica → AtNode → Replica
+with_node replica node = record replica { node = node }
+
+abbrev pub AppearKeeps : Type 0
+AppearKeeps = (state : State) (storage : ℕ) (node : AtNode) → Invariant state
+    → IsUntouched (state.replica storage) → IsFromBefore node state.shared.text
+    → Invariant (with_replica state storage (with_node (state.replica storage) node))

@@ -244,6 +244,19 @@ abbrev pub ConfirmKeeps : Type 0
 ConfirmKeeps = (state : State) (push : OpenPush) (voter : ℕ) (hash : Vote) → Invariant state
     → CanConfirm state push voter hash → Invariant (confirmed_cast state push voter)
 
+-- ---- more members have voted in the committed phase, and nothing is booked by it: such a vote is
+-- for another hash than the decided one
+
+abbrev pub with_votes : State → OpenPush → (ℕ → Bool) → State
+with_votes state push cast = record state { turn = Some (record push { cast = cast }) }
+
+-- where each that had voted still has, the invariant stays
+abbrev pub VotesKeep : Type 0
+VotesKeep = (state : State) (push : OpenPush) (cast : ℕ → Bool) → Invariant state
+    → state.turn ≡ Some push
+    → ((storage : ℕ) → push.cast storage ≡ true → cast storage ≡ true)
+    → Invariant (with_votes state push cast)
+
 -- ---- it is finished, or a restart drops it
 
 abbrev pub FinishKeeps : Type 0

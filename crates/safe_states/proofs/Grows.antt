@@ -12,7 +12,7 @@ use Rattle.replica_invariant.specs.State.{Entry, OpenPush, Replica, Shared, Stat
 use Rattle.push_events.proofs.Filled.{fill_hash, fill_lease, fill_content}
 use Rattle.push_events.proofs.Values.{choose, none_some, value_case, value_elsewhere}
 use Rattle.safe_states.specs.Grows.{BookingsGrow, Grows, LeadsTo, LogGrows, NothingFalls, RoutedReads, Stays, Then}
-use Rattle.safe_states.specs.Happens.{Aborts, Accepts, Admits, AnswersFence, Applies, Assigns, Begins, Commits, Confirms, Creates, Decides, DrawsFence, Drops, EndsUpdate, Enrols, Fails, Finishes, Happens, Issues, Joins, Loses, Makes, MissesFence, Plans, Prepares, Reads, Removes, Settles, TakesDelete, TakesUpdate}
+use Rattle.safe_states.specs.Happens.{Aborts, Accepts, Admits, AnswersFence, Appears, Applies, Assigns, Begins, Commits, Confirms, Creates, Decides, DrawsFence, Drops, EndsUpdate, Enrols, Fails, Finishes, Happens, Issues, Joins, Loses, Makes, MissesFence, Plans, Prepares, Queues, Reads, Removes, Settles, TakesDelete, TakesUpdate, Votes}
 use Rattle.safe_states.specs.Safe.{Holds}
 use Rattle.safe_states.proofs.Reached.{each_event_keeps_the_invariant}
 use Rattle.push_events.proofs.Small.{never_booked}
@@ -142,6 +142,7 @@ happens_grows _ _ i (Enrols st s c) =
     (sym (never_booked st s i c) ∙ e))
 happens_grows _ _ i (Admits st) =
     record { log = self st.shared; floor = λ s f e. (f, e, omega arith) }
+happens_grows _ _ i (Appears st s node u f) = unmoved st s _ refl
 happens_grows _ _ i (Assigns st m some known) =
     record { log = self st.shared; floor = λ s f e. (f, e, omega arith) }
 happens_grows _ _ i (Begins st m c) =
@@ -164,11 +165,15 @@ happens_grows _ _ i (Commits st s l n h b a p c w) =
     (λ f e. (f, e, omega arith))
 happens_grows _ _ i (Confirms st p v h c) =
     one st st.shared v _ _ (self st.shared) (confirms st i v (st.replica v).booking refl)
+happens_grows _ _ i (Votes st p cast t more) =
+    record { log = self st.shared; floor = λ s f e. (f, e, omega arith) }
 happens_grows _ _ i (Finishes st) =
     record { log = self st.shared; floor = λ s f e. (f, e, omega arith) }
 happens_grows _ _ i (Plans st t j c) = unmoved st t _ refl
 happens_grows _ _ i (Drops st t) = unmoved st t _ refl
 happens_grows _ _ i (Fails st t j x e n) = unmoved st t _ refl
+happens_grows _ _ i (Queues st jobs fits) =
+    record { log = self st.shared; floor = λ s f e. (f, e, omega arith) }
 happens_grows _ _ i (TakesUpdate st t s c) = draws st t _ refl
 happens_grows _ _ i (TakesDelete st t c) = draws st t _ refl
 happens_grows _ _ i (Reads st t l s g k x a c) = unmoved st t _ refl

@@ -10,9 +10,12 @@ use Rattle.push_events.proofs.Decide.{decide_keeps}
 use Rattle.push_events.proofs.Issue.{issue_keeps}
 use Rattle.push_events.proofs.Join.{join_keeps}
 use Rattle.push_events.proofs.Make.{make_keeps}
+use Rattle.push_events.proofs.Untouched.{appear_keeps}
+use Rattle.push_events.proofs.Votes.{votes_keep}
 use Rattle.push_events.proofs.Small.{abort_keeps, enrol_keeps, finish_keeps, lose_keeps, prepare_keeps}
 use Rattle.job_events.proofs.Apply.{apply_keeps}
 use Rattle.job_events.proofs.Jobs.{drop_keeps, end_update_keeps, fail_keeps, plan_keeps}
+use Rattle.job_events.proofs.ManyJobs.{many_jobs}
 use Rattle.job_events.proofs.Remove.{remove_keeps}
 use Rattle.job_events.proofs.Snapshot.{snapshot_keeps}
 use Rattle.job_events.proofs.Take.{take_update_keeps}
@@ -22,13 +25,14 @@ use Rattle.repair_events.proofs.FenceAnswer.{fence_answer_keeps}
 use Rattle.repair_events.proofs.FenceBegin.{fence_begin_keeps}
 use Rattle.repair_events.proofs.Missed.{fence_miss_keeps}
 use Rattle.repair_events.proofs.Settle.{settle_keeps}
-use Rattle.safe_states.specs.Happens.{Aborts, Accepts, Admits, AnswersFence, Applies, Assigns, Begins, Commits, Confirms, Creates, Decides, DrawsFence, Drops, EndsUpdate, Enrols, EventKeeps, Fails, Finishes, Goes, Happens, IsReached, Issues, Joins, Loses, Makes, MissesFence, Plans, Prepares, ReachedKeeps, Reads, Removes, Settles, Starts, TakesDelete, TakesUpdate}
+use Rattle.safe_states.specs.Happens.{Aborts, Accepts, Admits, AnswersFence, Appears, Applies, Assigns, Begins, Commits, Confirms, Creates, Decides, DrawsFence, Drops, EndsUpdate, Enrols, EventKeeps, Fails, Finishes, Goes, Happens, IsReached, Issues, Joins, Loses, Makes, MissesFence, Plans, Prepares, Queues, ReachedKeeps, Reads, Removes, Settles, Starts, TakesDelete, TakesUpdate, Votes}
 
 happens_keeps : (old new : State) → Happens old new → Invariant old → Invariant new
 happens_keeps _ _ (Creates old chosen c) i = create_keeps old chosen i c
 happens_keeps _ _ (Makes old s l b a c w) i = make_keeps old s l b a i c w
 happens_keeps _ _ (Enrols old s c) i = enrol_keeps old s i c
 happens_keeps _ _ (Admits old) i = admit_keeps old i
+happens_keeps _ _ (Appears old s node u f) i = appear_keeps old s node i u f
 happens_keeps _ _ (Assigns old chosen some known) i = assign_keeps old chosen i some known
 happens_keeps _ _ (Begins old members c) i = begin_keeps old members i c
 happens_keeps _ _ (Prepares old s l u c) i = prepare_keeps old s l u i c
@@ -39,10 +43,12 @@ happens_keeps _ _ (Joins old p v h c) i = join_keeps old p v h i c
 happens_keeps _ _ (Issues old p v h x a c) i = issue_keeps old p v h x a i c
 happens_keeps _ _ (Commits old s l n h b a p c w) i = commit_keeps old s l n h b a p i c w
 happens_keeps _ _ (Confirms old p v h c) i = confirm_keeps old p v h i c
+happens_keeps _ _ (Votes old p cast t more) i = votes_keep old p cast i t more
 happens_keeps _ _ (Finishes old) i = finish_keeps old i
 happens_keeps _ _ (Plans old t j c) i = plan_keeps old t j i c
 happens_keeps _ _ (Drops old t) i = drop_keeps old t i
 happens_keeps _ _ (Fails old t j x e n) i = fail_keeps old t j x i e n
+happens_keeps _ _ (Queues old jobs fits) i = many_jobs old jobs i fits
 happens_keeps _ _ (TakesUpdate old t s c) i = take_update_keeps old t s i c
 happens_keeps _ _ (TakesDelete old t c) i = take_delete_keeps old t i c
 happens_keeps _ _ (Reads old t l s g k x a c) i = snapshot_keeps old t l s g k x a i c

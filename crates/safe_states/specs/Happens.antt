@@ -1,11 +1,12 @@
 -- What may happen to one repository, and the states that lists of it lead to.
 use Rattle.std.specs.Prelude.{◌≡◌, ℕ, ◌+◌, ◌≤◌, Option, None, Some, Bool, true, false}
 use Rattle.replica_invariant.specs.Contents.{Content, Updates, Vote}
-use Rattle.replica_invariant.specs.Creations.{CanCreate, CanEnrol, CanMake, IsFromBefore, created, enrolled, made, opening}
-use Rattle.replica_invariant.specs.Invariant.{Invariant}
+use Rattle.replica_invariant.specs.Creations.{CanCreate, CanEnrol, CanMake, IsFromBefore, created, enrolled, made, opening, with_node}
+use Rattle.replica_invariant.specs.Invariant.{Invariant, IsUntouched}
 use Rattle.replica_invariant.specs.Jobs.{CanApply, CanEndUpdate, CanPlan, CanRead, CanRemove, CanTakeDelete, CanTakeUpdate, applied, delete_taken, draw_at, ended, removed, update_taken, with_job}
+use Rattle.replica_invariant.specs.ManyJobs.{MayHave, with_jobs}
 use Rattle.replica_invariant.specs.Purposes.{Pushing, Updating}
-use Rattle.replica_invariant.specs.Pushes.{CanAbort, CanBegin, CanCommit, CanConfirm, CanDecide, CanIssue, CanJoin, CanPrepare, begun, commit_arrived, confirmed_cast, decided, issued, joined, prepared, raised}
+use Rattle.replica_invariant.specs.Pushes.{CanAbort, CanBegin, CanCommit, CanConfirm, CanDecide, CanIssue, CanJoin, CanPrepare, begun, commit_arrived, confirmed_cast, decided, issued, joined, prepared, raised, with_votes}
 use Rattle.replica_invariant.specs.Repairs.{CanAccept, CanAnswer, CanFence, CanSettle, accepted, booked_at, fence_answered, fence_drawn, raised_to}
 use Rattle.replica_invariant.specs.State.{AtNode, Job, JobState, OpenPush, ReadyPush, Running, State, with_replica}
 
@@ -20,6 +21,9 @@ pub data Happens : State → State → Type 0 where
   Enrols : (old : State) (storage : ℕ) → CanEnrol old.shared (old.replica storage)
       → Happens old (with_replica old storage (enrolled (old.replica storage)))
   Admits : (old : State) → Happens old (record old { admitted = old.admitted + 1 })
+  Appears : (old : State) (storage : ℕ) (node : AtNode) → IsUntouched (old.replica storage)
+      → IsFromBefore node old.shared.text
+      → Happens old (with_replica old storage (with_node (old.replica storage) node))
   Assigns : (old : State) (chosen : ℕ → Bool) → ((storage : ℕ) × (chosen storage ≡ true))
       → ((storage : ℕ) → old.admitted ≤ storage → chosen storage ≡ false)
       → Happens old (record old { assigned = chosen })
@@ -49,6 +53,9 @@ pub data Happens : State → State → Type 0 where
       → Happens old (commit_arrived old storage lease begun hash answered push.content)
   Confirms : (old : State) (push : OpenPush) (voter : ℕ) (hash : Vote)
       → CanConfirm old push voter hash → Happens old (confirmed_cast old push voter)
+  Votes : (old : State) (push : OpenPush) (cast : ℕ → Bool) → old.turn ≡ Some push
+      → ((storage : ℕ) → push.cast storage ≡ true → cast storage ≡ true)
+      → Happens old (with_votes old push cast)
   Finishes : (old : State) → Happens old (record old { turn = None })
   -- jobs
   Plans : (old : State) (target : ℕ) (job : Job) → CanPlan old target job
@@ -60,6 +67,9 @@ pub data Happens : State → State → Type 0 where
       → Happens old
       (with_replica old target
       (with_job (old.replica target) (Some (record job { state = then_ }))))
+  Queues : (old : State) (jobs : ℕ → Option Job)
+      → ((storage : ℕ) (job : Job) → jobs storage ≡ Some job → MayHave old storage job)
+      → Happens old (with_jobs old jobs)
   TakesUpdate : (old : State) (target source : ℕ) → CanTakeUpdate old target source
       → Happens old (update_taken old target source)
   TakesDelete : (old : State) (target : ℕ) → CanTakeDelete old target

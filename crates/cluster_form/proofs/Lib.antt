@@ -1,33 +1,33 @@
-mod Lists
-mod OneOf
-mod Places
-mod Uses
-mod Induction
-mod AlikeBooks
-mod ApartPaths
-mod DenseBooks
-mod AssignedBooks
-mod BooksKept
-mod JobLists
-mod PlannedJobs
-mod PlanComes
-mod JobsKept
-mod Registries
-mod Panels
-mod TurnLists
-mod TurnsKept
-mod TablesKept
-mod BooksWithin
-mod Among
-mod WithinBooks
-mod WithinLists
-mod WithinRows
-mod Homes
-mod JobsHome
-mod LedgerUses
-mod LedgerKept
-mod PushLists
-mod MembersKept
-mod PushRoutes
-mod JobRoutes
-mod FormKept
+pub mod Lists
+pub mod OneOf
+pub mod Places
+pub mod Uses
+pub mod Induction
+pub mod AlikeBooks
+pub mod ApartPaths
+pub mod DenseBooks
+pub mod AssignedBooks
+pub mod BooksKept
+pub mod JobLists
+pub mod PlannedJobs
+pub mod PlanComes
+pub mod JobsKept
+pub mod Registries
+pub mod Panels
+pub mod TurnLists
+pub mod TurnsKept
+pub mod TablesKept
+pub mod BooksWithin
+pub mod Among
+pub mod WithinBooks
+pub mod WithinLists
+pub mod WithinRows
+pub mod Homes
+pub mod JobsHome
+pub mod LedgerUses
+pub mod LedgerKept
+pub mod PushLists
+pub mod MembersKept
+pub mod PushRoutes
+pub mod JobRoutes
+pub mod FormKept

@@ -116,7 +116,7 @@ all_led P (Some primary) ns leads all =
 
 -- ---- the members of a push that begins
 
-places_within : {A : Type 0} (n : ℕ) (test : A → Bool) (xs : List A)
+pub places_within : {A : Type 0} (n : ℕ) (test : A → Bool) (xs : List A)
     → AllByRecursion (λ place. place < n + length xs) (places_from n test xs)
 places_within n test [] = tt
 places_within n test (x ∷ xs) =

@@ -191,9 +191,8 @@ other_repo repo job later is above = by (bool (is_for job.repo.0 job.target.0 la
     by (inr fails) = fails
 
 module _ (core : Core) (P : Job → Type 0)
-    (on : (repo : ℕ) (book : Repository) (storage : ℕ) (job : Job)
-    → repository core repo ≡ Some book → is_one_of storage (storages_in book) ≡ true
-    → IsNew core repo book storage job → P job) where
+    (on : (repo : ℕ) (book : Repository) → repository core repo ≡ Some book
+    → AllByRecursion P (planned_for core repo book)) where
   -- the list from a number on is the rest of the book
   abbrev IsRest : ℕ → List Repository → Type 0
   IsRest n books = (i : ℕ) (book : Repository) → slice_get books i ≡ Some book
@@ -214,24 +213,27 @@ module _ (core : Core) (P : Job → Type 0)
       → AllByRecursion P (planned_from core n books)
   all_from n [] rest = tt
   all_from n (book ∷ books) rest = all_both P (planned_for core n book)
-      (planned_from core (n + 1) books)
-      (all_planned_for core n book P
-      (λ storage job among is.
-      on n book storage job (first_of_rest n book books rest) among is))
+      (planned_from core (n + 1) books) (on n book (first_of_rest n book books rest))
       (all_from (n + 1) books (rest_on n book books rest))
 
   all_in : (repo : ℕ) (there : Option Repository) → repository core repo ≡ there
       → AllByRecursion P (planned_in core repo there)
   all_in repo None is = tt
-  all_in repo (Some book) is =
-      all_planned_for core repo book P
-      (λ storage job among new. on repo book storage job is among new)
+  all_in repo (Some book) is = on repo book is
 
-  -- each job that is planned is new in its repository
-  pub all_of_plan : (only : Option ℕ) → AllByRecursion P (all_planned core only)
-  all_of_plan None = all_from 0 core.repositories (λ i book is.
+  -- what is true of each job that is planned for a repository is true of all that is planned
+  pub all_of_books : (only : Option ℕ) → AllByRecursion P (all_planned core only)
+  all_of_books None = all_from 0 core.repositories (λ i book is.
       subst (λ m. repository core m ≡ Some book) (let same : i ≡ 0 + i = omega arith in same) is)
-  all_of_plan (Some repo) = all_in repo (repository core repo) refl
+  all_of_books (Some repo) = all_in repo (repository core repo) refl
+
+-- each of them is new in its repository
+pub all_of_plan : (core : Core) (P : Job → Type 0) → ((repo : ℕ) (book : Repository)
+    (storage : ℕ) (job : Job) → repository core repo ≡ Some book
+    → is_one_of storage (storages_in book) ≡ true → IsNew core repo book storage job → P job)
+    → (only : Option ℕ) → AllByRecursion P (all_planned core only)
+all_of_plan core P on = all_of_books core P (λ repo book there. all_planned_for core repo book P
+    (λ storage job among new. on repo book storage job there among new))
 
 from_number_on : (core : Core) (n : ℕ) (books : List Repository)
     → AllByRecursion (λ (job : Job). n ≤ job.repo.0) (planned_from core n books)

@@ -135,7 +135,7 @@ module _ (c : Cluster) (repo : ℕ) (book : Repository) (is : repository c.core 
 -- ---- each operation
 
 -- only a push that begins is sent to members
-pushed_by : (c : Cluster) (asked : Op) → ((issues c asked).pushed ≡ c.pushed)
+pub pushed_by : (c : Cluster) (asked : Op) → ((issues c asked).pushed ≡ c.pushed)
     ⊎ ((repo : ℕ) × (book : Repository) × (repository c.core repo ≡ Some book)
     × (asked ≡ op.Begin (repo_id repo)))
 pushed_by c (op.Begin repo) = by (repository c.core repo.0) refl

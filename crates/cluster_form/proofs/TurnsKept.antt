@@ -81,7 +81,7 @@ pub first_holds : (first : Option Refusal) (causes : List (Option Refusal))
 first_holds None causes is = (refl, is)
 first_holds (Some why) causes is = absurd (cc)
 
-no_turn : (there : Option OpenPush) → turn_taken there ≡ None → there ≡ None
+pub no_turn : (there : Option OpenPush) → turn_taken there ≡ None → there ≡ None
 no_turn None is = refl
 no_turn (Some push) is = absurd (cc)
 

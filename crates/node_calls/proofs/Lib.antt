@@ -3,7 +3,7 @@ pub mod OptionLemmas
 mod ReachLemmas
 mod RefusalLemmas
 pub mod ReplicaLemmas
-mod StepLemmas
+pub mod StepLemmas
 mod TipLemmas
 pub mod UpdateLemmas
-mod WholeLemmas
+pub mod WholeLemmas

@@ -114,7 +114,7 @@ kept lease place (Some push) whole = at (nat_lt push.lease (max place.fence leas
 -- ---- what each call makes of a place
 
 -- what holds of the one holds of the other
-abbrev StaysWhole : ReplicaState → ReplicaState → Type 0
+abbrev pub StaysWhole : ReplicaState → ReplicaState → Type 0
 StaysWhole place then_ = IsWholeReplica place → IsWholeReplica then_
 
 creates : (lease : ℕ) (place : ReplicaState) (answer : Unit {0}) (then_ : ReplicaState)
@@ -236,7 +236,7 @@ removes lease place answer then_ done whole =
     (settled (lease + 1) (record place { held = false; refs = []; objects = [] })
     (leases place whole) passed no_store no_refs (no_tips (object_at [])))
 
-all_whole : Keeps StaysWhole
+pub all_whole : Keeps StaysWhole
 all_whole = record {
   stays = λ place whole. whole;
   creates = creates;

@@ -1,11 +1,11 @@
-mod Asking
-mod PushRows
-mod JobRows
-mod ClusterRows
-mod DeliveryRows
-mod OneCall
-mod OneRun
-mod Refusing
+pub mod Asking
+pub mod PushRows
+pub mod JobRows
+pub mod ClusterRows
+pub mod DeliveryRows
+pub mod OneCall
+pub mod OneRun
+pub mod Refusing
 pub mod LaterBooks
 pub mod Growing
-mod GrowingRuns
+pub mod GrowingRuns

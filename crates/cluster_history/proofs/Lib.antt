@@ -1,0 +1,6 @@
+pub mod Books
+pub mod Frame
+pub mod OneRepository
+pub mod Effects
+pub mod NodeCalls
+pub mod OneReplica

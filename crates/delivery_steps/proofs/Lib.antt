@@ -1,0 +1,12 @@
+pub mod OneDelivery
+pub mod Make
+pub mod Pushes
+pub mod Commit
+pub mod Fence
+pub mod Refs
+pub mod Purposes
+pub mod Apply
+pub mod Remove
+pub mod SnapshotKept
+pub mod Snapshot
+pub mod Loss

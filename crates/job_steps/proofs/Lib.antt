@@ -1,0 +1,12 @@
+pub mod Tests
+pub mod Queues
+pub mod OnQueue
+pub mod QueueChanges
+pub mod Newest
+pub mod Planned
+pub mod OneJob
+pub mod JobReplica
+pub mod Workers
+pub mod Ends
+pub mod Taking
+pub mod Dequeue

@@ -1,0 +1,9 @@
+pub mod Turns
+pub mod Quiet
+pub mod Ended
+pub mod Opened
+pub mod Leases
+pub mod Members
+pub mod Begun
+pub mod Told
+pub mod Collected

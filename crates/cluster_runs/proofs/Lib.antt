@@ -1,0 +1,13 @@
+pub mod Grown
+pub mod Texts
+pub mod Remains
+pub mod Nodes
+pub mod Quiet
+pub mod Ledgers
+pub mod Wholes
+pub mod Runs
+pub mod Safe
+pub mod Later
+pub mod EachMove
+pub mod Conditions
+pub mod Empty

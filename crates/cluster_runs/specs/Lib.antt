@@ -1,0 +1,5 @@
+pub mod Lists
+pub mod Runs
+pub mod Safe
+pub mod Later
+pub mod Conditions

@@ -1,0 +1,10 @@
+pub mod Panels
+pub mod Registers
+pub mod Transactions
+pub mod Outcomes
+pub mod Purposes
+pub mod Told
+pub mod Issued
+pub mod Collected
+pub mod Named
+pub mod Decided

@@ -1,0 +1,5 @@
+pub mod Books
+pub mod Calls
+pub mod Changes
+pub mod Paths
+pub mod Rules

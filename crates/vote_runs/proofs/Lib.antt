@@ -8,3 +8,10 @@ pub mod Issued
 pub mod Collected
 pub mod Named
 pub mod Decided
+pub mod Agreeing
+pub mod TwoPhases
+pub mod LeftAlone
+pub mod MovesAlone
+pub mod MemberNames
+pub mod Complete
+pub mod BegunPushes

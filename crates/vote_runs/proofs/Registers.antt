@@ -81,6 +81,62 @@ by_withdrawal name old = unless_refused (cancel_voter_answer name old) old _
 by_stop : (old : Voting) → IsLedOn old (after_stop old)
 by_stop old = unless_refused (stop_answer old) old (with_act old Stop) (by_act old Stop)
 
+-- ---- what leaves the last number, the transactions and the pushes
+
+module _ (P : ℕ → Registry → List OpenPush → Type 0) where
+  abbrev pub OfVotes : Core → Type 0
+  OfVotes core = P core.last_tx core.transactions core.pushes
+
+  -- a change of the book
+  pub by_book : (core : Core) (repo : ℕ) (change : Repository → Repository) (there : Option Repository)
+      → OfVotes core → OfVotes (with_repository_by there repo change core)
+  by_book core repo change None holds = holds
+  by_book core repo change (Some book) holds = holds
+
+  -- what a vote on a push books
+  pub cast_booked : (core : Core) (push : Option OpenPush) (name : List ℕ) (phase : Phase)
+      (hash : Hash) (old new : Voting) → OfVotes core
+      → OfVotes (with_cast_booked push name phase hash old new core)
+  cast_booked core None name phase hash old new holds = holds
+  cast_booked core (Some push) name phase hash old new holds =
+      by_book core push.repo (booked_by push name phase hash old new)
+      (repository core push.repo) holds
+
+  -- a repository that is created
+  pub creates : (core : Core) (there : Option ℕ) (book : Repository) → OfVotes core
+      → OfVotes (with_created there book core)
+  creates core None book holds = holds
+  creates core (Some repo) book holds = holds
+
+  -- a job that is taken
+  pub takes : (core : Core) (job : Job) (source : Option ℕ) (now : ℕ) (there : Option Repository)
+      → OfVotes core → OfVotes (taken_in there job source now core)
+  takes core job source now None holds = holds
+  takes core job source now (Some book) holds = holds
+
+  -- what comes of the next job
+  pub dequeues : (core : Core) (next : Option Next) (now : ℕ) → OfVotes core
+      → OfVotes (dequeued next now core)
+  dequeues core None now holds = holds
+  dequeues core (Some next) now holds = by_what next.taking
+    where
+      by_what : (taking : Taking) → OfVotes (dequeued_by next.job taking now core)
+      by_what PassOver = holds
+      by_what Drop = holds
+      by_what (Take source) = takes core next.job source now (repository core next.job.repo.0) holds
+
+  -- a job that ends
+  pub ends : (core : Core) (good : Bool) (job : Option Job) → OfVotes core
+      → OfVotes (ended_job good job core)
+  ends core good None holds = holds
+  ends core true (Some job) holds = by_kind job.kind
+    where
+      by_kind : (kind : JobKind) → OfVotes (with_end_booked job kind (without_job job.number core))
+      by_kind Update = by_book (without_job job.number core) job.repo.0 _
+          (repository core job.repo.0) holds
+      by_kind Delete = holds
+  ends core false (Some job) holds = holds
+
 -- ---- what is true by the last number and the transactions
 
 -- each change of the transactions keeps it
@@ -96,6 +152,9 @@ pub record IsOfRegistry (R : ℕ → Registry → Type 0) : Type 0 where
   pub none : (last : ℕ) (transactions : Registry) → R last transactions → R last []
 
 module _ (R : ℕ → Registry → Type 0) (is : IsOfRegistry R) where
+  abbrev OfRegistry : ℕ → Registry → List OpenPush → Type 0
+  OfRegistry last transactions pushes = R last transactions
+
   abbrev pub OfBoth : Core → Type 0
   OfBoth core = R core.last_tx core.transactions
 
@@ -147,67 +206,15 @@ module _ (R : ℕ → Registry → Type 0) (is : IsOfRegistry R) where
   changed core tx becomes (Some old) at leads holds =
       is.led core.last_tx core.transactions tx old (becomes old) at (leads old) holds
 
-  -- a change of the book
-  by_book : (core : Core) (repo : ℕ) (change : Repository → Repository) (there : Option Repository)
-      → OfBoth core → OfBoth (with_repository_by there repo change core)
-  by_book core repo change None holds = holds
-  by_book core repo change (Some book) holds = holds
-
-  -- what a vote on a push books
-  cast_booked : (core : Core) (push : Option OpenPush) (name : List ℕ) (phase : Phase)
-      (hash : Hash) (old new : Voting) → OfBoth core
-      → OfBoth (with_cast_booked push name phase hash old new core)
-  cast_booked core None name phase hash old new holds = holds
-  cast_booked core (Some push) name phase hash old new holds =
-      by_book core push.repo (booked_by push name phase hash old new)
-      (repository core push.repo) holds
-
   -- a vote
   casts : (core : Core) (tx : TxId) (name : List ℕ) (phase : Phase) (hash : Hash)
       (vote : Option Voting) → voting core tx ≡ vote → OfBoth core
       → OfBoth (cast_on tx name phase hash vote core)
   casts core tx name phase hash None at holds = holds
-  casts core tx name phase hash (Some old) at holds = cast_booked (record core { transactions = _ })
+  casts core tx name phase hash (Some old) at holds = cast_booked OfRegistry (record core { transactions = _ })
       (push_of core tx) name phase hash old (after_cast name phase hash old)
       (is.led core.last_tx core.transactions tx old (after_cast name phase hash old) at
       (by_cast name phase hash old) holds)
-
-  -- ---- what leaves them
-
-  -- a repository that is created
-  creates : (core : Core) (there : Option ℕ) (book : Repository) → OfBoth core
-      → OfBoth (with_created there book core)
-  creates core None book holds = holds
-  creates core (Some repo) book holds = holds
-
-  -- a job that is taken
-  takes : (core : Core) (job : Job) (source : Option ℕ) (now : ℕ) (there : Option Repository)
-      → OfBoth core → OfBoth (taken_in there job source now core)
-  takes core job source now None holds = holds
-  takes core job source now (Some book) holds = holds
-
-  -- what comes of the next job
-  dequeues : (core : Core) (next : Option Next) (now : ℕ) → OfBoth core
-      → OfBoth (dequeued next now core)
-  dequeues core None now holds = holds
-  dequeues core (Some next) now holds = by_what next.taking
-    where
-      by_what : (taking : Taking) → OfBoth (dequeued_by next.job taking now core)
-      by_what PassOver = holds
-      by_what Drop = holds
-      by_what (Take source) = takes core next.job source now (repository core next.job.repo.0) holds
-
-  -- a job that ends
-  ends : (core : Core) (good : Bool) (job : Option Job) → OfBoth core
-      → OfBoth (ended_job good job core)
-  ends core good None holds = holds
-  ends core true (Some job) holds = by_kind job.kind
-    where
-      by_kind : (kind : JobKind) → OfBoth (with_end_booked job kind (without_job job.number core))
-      by_kind Update = by_book (without_job job.number core) job.repo.0 _
-          (repository core job.repo.0) holds
-      by_kind Delete = holds
-  ends core false (Some job) holds = holds
 
   -- ---- each operation
 
@@ -232,23 +239,23 @@ module _ (R : ℕ → Registry → Type 0) (is : IsOfRegistry R) where
   registry_left core (op.Begin repo) none dense numbers holds =
       begins core repo.0 (repository core repo.0) refl dense none numbers holds
   registry_left core (op.Create virt path factor) none dense numbers holds =
-      creates core (found core virt path) _ holds
+      creates OfRegistry core (found core virt path) _ holds
   registry_left core (op.Enrol repo storage lease) none dense numbers holds =
-      by_book core repo.0 _ (repository core repo.0) holds
+      by_book OfRegistry core repo.0 _ (repository core repo.0) holds
   registry_left core (op.Dequeue target now) none dense numbers holds =
-      dequeues core (next_job core target.0) now holds
+      dequeues OfRegistry core (next_job core target.0) now holds
   registry_left core (op.Ack job lease good) none dense numbers holds =
-      ends core good (job_at core job.0) holds
+      ends OfRegistry core good (job_at core job.0) holds
   registry_left core (op.SetFactor repo factor) none dense numbers holds =
-      by_book core repo.0 _ (repository core repo.0) holds
+      by_book OfRegistry core repo.0 _ (repository core repo.0) holds
   registry_left core (op.AcceptBegin repo storage) none dense numbers holds =
-      by_book (record core { jobs = _ }) repo.0 _ (repository core repo.0) holds
+      by_book OfRegistry (record core { jobs = _ }) repo.0 _ (repository core repo.0) holds
   registry_left core (op.Accept repo storage lease) none dense numbers holds =
-      by_book (record core { jobs = _ }) repo.0 _ (repository core repo.0) holds
+      by_book OfRegistry (record core { jobs = _ }) repo.0 _ (repository core repo.0) holds
   registry_left core (op.SettleBegin repo storage) none dense numbers holds =
-      by_book (record core { jobs = _ }) repo.0 _ (repository core repo.0) holds
+      by_book OfRegistry (record core { jobs = _ }) repo.0 _ (repository core repo.0) holds
   registry_left core (op.Settle repo storage lease last) none dense numbers holds =
-      by_book (record core { jobs = _ }) repo.0 _ (repository core repo.0) holds
+      by_book OfRegistry (record core { jobs = _ }) repo.0 _ (repository core repo.0) holds
   registry_left core (op.Admit virt name) none dense numbers holds = holds
   registry_left core (op.Health storage up) none dense numbers holds = holds
   registry_left core (op.Collect tx voter sub) none dense numbers holds = holds

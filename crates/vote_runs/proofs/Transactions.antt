@@ -70,11 +70,11 @@ module _ (R : ℕ → Registry → Type 0) (is : IsOfRegistry R) where
 -- ---- what is true of one transaction
 
 -- transactions are the same where their numbers are
-same_tx : (one other : TxId) → one.0 ≡ other.0 → one ≡ other
+pub same_tx : (one other : TxId) → one.0 ≡ other.0 → one ≡ other
 same_tx one other same = ap (λ n. let tx : TxId = record { 0 = n } in tx) same
 
 -- and differ where those do
-apart_tx : (one other : TxId) → (one.0 == other.0) ≡ false → one ≡ other → ⊥
+pub apart_tx : (one other : TxId) → (one.0 == other.0) ≡ false → one ≡ other → ⊥
 apart_tx one other fails same = other_number one.0 other.0 fails (ap (λ (t : TxId). t.0) same)
 
 -- a transaction that is closed is found no more

@@ -1,3 +1,4 @@
 pub mod Acts
 pub mod Outcomes
 pub mod Commits
+pub mod Complete

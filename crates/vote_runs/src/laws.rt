@@ -2,6 +2,7 @@
 
 ghost use Rattle.vote_runs.specs.Acts.{TransactionsAreOfPolls, TransactionsGoOnByActs};
 ghost use Rattle.vote_runs.specs.Commits.{CommitsAreIssuedByCollects, IssuedCommitsAreNamed, OpenPushesCommitWhatTheyDecided};
+ghost use Rattle.vote_runs.specs.Complete.{PushesBeginUntouched, PushesThatAQuorumVotesForEndCommitted, PushesThatAllVoteForEndCommitted};
 ghost use Rattle.vote_runs.specs.Outcomes.{OutcomesStay};
 
 /// Each transaction on record is what some acts made of its opening by a poll whose threshold is above
@@ -35,4 +36,13 @@ pub fn a_quorum_names_what_is_issued()
 /// its members name it.
 pub fn an_open_push_commits_what_it_decided()
     ensures { OpenPushesCommitWhatTheyDecided }
+{}
+
+/// A push begins with nothing done on it. If from then on members that are a quorum vote for it, for one
+/// hash and in both phases, it ends committed, and its `Finish` answers so; unless a voter was withdrawn,
+/// or it was canceled, stopped or ended before, or all was started again. So it ends where all vote.
+pub fn a_push_that_a_quorum_votes_for_ends_committed()
+    ensures begun { PushesBeginUntouched }
+    ensures quorum { PushesThatAQuorumVotesForEndCommitted }
+    ensures all { PushesThatAllVoteForEndCommitted }
 {}

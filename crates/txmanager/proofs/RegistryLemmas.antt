@@ -74,6 +74,16 @@ other_changed registry tx other becomes differ = other_with registry tx other (o
 pub other_closed : (registry : Registry) (tx other : TxId) → (other ≡ tx → ⊥) → transaction_at (remove_entry (is_at (nat_cmp tx.0)) registry) other ≡ transaction_at registry other
 other_closed registry tx other differ = lookup_removed other.0 tx.0 (record { voters = []; subs = [] }) (differ_in other tx differ) registry
 
+-- where there is no transaction of a number, none is put in its place
+pub put_nowhere : (registry : Registry) (tx : TxId) (voting : Voting) → transaction_at registry tx ≡ None
+    → with_transaction registry tx (Some voting) ≡ registry
+put_nowhere [] tx voting none = refl
+put_nowhere (e ∷ es) tx voting none =
+    elim (cases_Bool (is_at (nat_cmp tx.0) e.0)) [
+      | inl t ↦ absurd (let found : Some e.1 ≡ None = rw t at none in cc)
+      | inr f ↦ rw f (ap (λ (rest : Registry). e ∷ rest) (put_nowhere es tx voting (rw f at none)))
+    ]
+
 -- a refusal changes nothing
 
 pub on_unless_err : {A : Type 0} (answer : Result A TxRefusal) (old new : Voting) → OnErr answer (unless_err answer old new ≡ old)

@@ -20,3 +20,4 @@ pub use laws::{
 };
 pub use manager::{Manager, are_lawful_rounds};
 pub use refusal::{RegisterRefusal, TxRefusal};
+pub use transaction::Transaction;

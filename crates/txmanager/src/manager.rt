@@ -1,9 +1,10 @@
 //! The transactions that are open, by their numbers.
 
-ghost use Rattle.std.specs.Prelude.{◌≡◌, [], None, IfSome, IfNone, MatchResult, OnErr, OnOk};
+ghost use Rattle.std.specs.Prelude.{◌≡◌, [], None, Some, IfSome, IfNone, MatchResult, OnErr, OnOk};
+ghost use Rattle.std.specs.Option.{option_copied};
 ghost use Rattle.txmanager.specs.Calls.{Call, called};
 ghost use Rattle.txmanager.specs.Registry.{answer_at, are_lawful_rounds, rounds_refusal, transaction_at};
-ghost use Rattle.txmanager.specs.Registry.{with_changed, with_registered, without_transaction};
+ghost use Rattle.txmanager.specs.Registry.{with_changed, with_registered, with_transaction, without_transaction};
 ghost use Rattle.txmanager.specs.VoterCalls.{after_cancel_voter, after_cast, cancel_voter_answer, cast_answer};
 ghost use Rattle.txmanager.specs.Voting.{after_cancel, after_stop, collect_answer, done, outcome_answer, stop_answer, voting_on};
 ghost use Rattle.voters.specs.Panel.{IsPanel};
@@ -29,8 +30,8 @@ pub fn are_lawful_rounds(rounds: u32) -> bool
 
 /// The transactions that are registered and not closed. A transaction is found by its number in
 /// logarithmic time. Only `register` takes memory; each other call leaves every transaction but the
-/// one that it names as it was. A refused call changes nothing. Refused or not, each is the call that
-/// the laws speak of (`call`).
+/// one that it names as it was. A refused call changes nothing. Refused or not, each that can be
+/// refused is the call that the laws speak of (`call`). `put` is for what acts on a copy left.
 #[derive(Drop)]
 pub struct Manager {
     transactions: BTreeMap<Key, Transaction>,
@@ -83,6 +84,23 @@ impl Manager {
         match self.transactions.insert(Key::of(tx), transaction) {
             Ok(_) => Ok(()),
             Err(_) => Err(RegisterRefusal::Memory),
+        }
+    }
+
+    /// The transaction of a number, where there is one.
+    pub fn get(&self, tx: TxId) -> Option<&Transaction>
+        ensures { option_copied result ≡ transaction_at self.now tx }
+    {
+        self.transactions.get(&Key::of(tx))
+    }
+
+    /// Puts a transaction in the place of the one of a number. Where there is none of that number,
+    /// nothing changes.
+    pub fn put(&mut self, tx: TxId, transaction: Transaction)
+        ensures { self.new ≡ with_transaction self.old tx (Some transaction) }
+    {
+        if let Some(replaced) = self.transactions.get_mut(&Key::of(tx)) {
+            *replaced = transaction;
         }
     }
 

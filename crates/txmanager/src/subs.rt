@@ -1,6 +1,6 @@
 //! The subtransactions of a transaction in their order, with the acts on them.
 
-ghost use Rattle.std.specs.Prelude.{◌≡◌, ◌<◌, Some, length, map, slice_get};
+ghost use Rattle.std.specs.Prelude.{◌≡◌, ◌<◌, Some, IfOk, length, map, slice_get};
 ghost use Rattle.std.specs.List.{list_any};
 ghost use Rattle.txmanager.specs.Chain.{IsChain, IsRounds};
 ghost use Rattle.txmanager.specs.Rounds.{TxAct, after_act, current, stopped};
@@ -14,7 +14,20 @@ ghost use Rattle.voters.specs.declared.act.Act.{Act};
 use crate::carry::carry;
 use crate::refusal::TxRefusal;
 use px_base::{Hash, Phase, StorageName};
+use std::alloc::{AllocError, Global};
 use voters::{CancelRefusal, CastRefusal, Outcome, Sub, VoterResult};
+
+/// A copy of each.
+pub fn copied(alloc: Global, subs: &[Sub]) -> Result<Vec<Sub>, AllocError>
+    ensures { IfOk result (λ copies. copies.items ≡ subs.now) }
+{
+    let mut copies = Vec::with_capacity(alloc, subs.len())?;
+    for sub in subs {
+        let copy = sub.copy(alloc)?;
+        copies.push(copy)?;
+    }
+    Ok(copies)
+}
 
 fn is_committed(sub: &Sub, voter: u32) -> bool
     ensures { result ≡ committed_in voter sub.now }

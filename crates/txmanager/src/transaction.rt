@@ -8,13 +8,13 @@ ghost use Rattle.txmanager.specs.Voting.{after_cancel, after_stop, collect_answe
 ghost use Rattle.voters.specs.Panel.{IsPanel};
 
 use crate::refusal::TxRefusal;
-use crate::subs::{any_open, cancel_everywhere, cancel_in, cast_in, stop_in};
+use crate::subs::{any_open, cancel_everywhere, cancel_in, cast_in, copied, stop_in};
 use px_base::{Hash, Phase, StorageName, Voter};
 use std::alloc::{AllocError, Global};
 use std::marker::Model;
 use voters::{Outcome, Panel, Sub, VoterResult};
 
-/// Who votes, and the subtransactions of 1 to 8 rounds, two of a round. No call after `new` takes
+/// Who votes, and the subtransactions of 1 to 8 rounds, two of a round. Only `new` and `copy` take
 /// memory.
 #[derive(Drop)]
 pub struct Transaction {
@@ -50,7 +50,17 @@ impl Transaction {
         Ok(Transaction { voters, subs })
     }
 
-    fn number_of(&self, name: &StorageName) -> Option<u32>
+    /// A copy, which has the room of all votes too. An act on it leaves this one as it is.
+    pub fn copy(&self, alloc: Global) -> Result<Transaction, AllocError>
+        ensures { IfOk result (λ transaction. transaction ≡ self.now) }
+    {
+        let voters = Vec::from_slice(alloc, &self.voters)?;
+        let subs = copied(alloc, &self.subs)?;
+        Ok(Transaction { voters, subs })
+    }
+
+    /// The number of the voter of a name, from 0 in the order of the panel, where there is one.
+    pub fn number_of(&self, name: &StorageName) -> Option<u32>
         ensures { result ≡ number_of name.now self.now }
     {
         for (at, voter) in self.voters.iter().enumerate() {
@@ -61,8 +71,8 @@ impl Transaction {
         None
     }
 
-    // The subtransaction of a number, counted from 1.
-    fn sub_at(&self, number: u32) -> Option<&Sub>
+    /// The subtransaction of a number, counted from 1, where there is one.
+    pub fn sub_at(&self, number: u32) -> Option<&Sub>
         ensures { option_copied result ≡ sub_at number self.now }
     {
         if number == 0 {

@@ -46,6 +46,20 @@ impl Count {
         })
     }
 
+    /// A copy, with as much room for votes.
+    pub fn copy(&self, alloc: Global) -> Result<Count, AllocError>
+        ensures { IfOk result (λ count. count ≡ self.now) }
+    {
+        let marks = Vec::from_slice(alloc, &self.marks)?;
+        let mut tallies = Vec::with_capacity(alloc, self.tallies.capacity())?;
+        tallies.extend_from_slice(&self.tallies)?;
+        Ok(Count {
+            marks,
+            tallies,
+            pending: self.pending,
+        })
+    }
+
     /// How many voters there are.
     pub fn len(&self) -> usize
         ensures { result ≡ length self.now }

@@ -58,7 +58,7 @@ pub enum StopRefusal {
 }
 
 /// The votes of a panel on one question: one round of votes of a transaction, which Gitaly calls a
-/// subtransaction. A voter is its number in the panel, from 0. No call after `new` takes memory.
+/// subtransaction. A voter is its number in the panel, from 0. Only `new` and `copy` take memory.
 #[derive(Drop)]
 pub struct Sub {
     count: Count,
@@ -91,6 +91,19 @@ impl Sub {
             threshold: panel.threshold(),
             total,
             outcome: Outcome::Open,
+        })
+    }
+
+    /// A copy, which has the room of all votes too.
+    pub fn copy(&self, alloc: Global) -> Result<Sub, AllocError>
+        ensures { IfOk result (λ sub. sub ≡ self.now) }
+    {
+        let count = self.count.copy(alloc)?;
+        Ok(Sub {
+            count,
+            threshold: self.threshold,
+            total: self.total,
+            outcome: self.outcome,
         })
     }
 

@@ -36,9 +36,9 @@ within_left core asked order within =
     let rows = rows_within core asked order (within.jobs, within.pushes) in
     record { books = books_within core asked within; jobs = rows.0; pushes = rows.1 }
 
-left : (core : Core) (asked : Op) → refusal_of core asked ≡ None → IsFormed core
+pub formed_left : (core : Core) (asked : Op) → refusal_of core asked ≡ None → IsFormed core
     → IsFormed (left_by core asked)
-left core asked none form = record {
+formed_left core asked none form = record {
   tables = tables_left core asked none form.tables;
   books = books_left core asked none form.books;
   jobs = jobs_left core asked form.books.dense form.jobs;
@@ -47,8 +47,8 @@ left core asked none form = record {
   homes = homes_left core asked form.books.dense form.homes;
 }
 
-again : (core : Core) → IsFormed core → IsFormed (restarted core)
-again core form = record {
+pub formed_again : (core : Core) → IsFormed core → IsFormed (restarted core)
+formed_again core form = record {
   tables = tables_again core form.tables;
   books = books_again core form.books;
   jobs = jobs_again core form.jobs;
@@ -57,8 +57,8 @@ again core form = record {
   homes = homes_again core form.homes;
 }
 
-at_first : IsFormed empty
-at_first = record {
+pub formed_at_first : IsFormed empty
+formed_at_first = record {
   tables = no_tables;
   books = no_books;
   jobs = no_jobs;
@@ -90,7 +90,7 @@ same_form old new core uses pushed worked form = record {
 form_left : (old : Cluster) (asked : Op) → event_refusal old asked ≡ None → HasForm old
     → HasForm (done_in old asked)
 form_left old asked none form = record {
-  core = left old.core asked (first_none (refusal_of old.core asked) _ none) form.core;
+  core = formed_left old.core asked (first_none (refusal_of old.core asked) _ none) form.core;
   leases = record {
     uses = uses_left old asked none form.core form.leases.uses;
     members = members_left old asked form.core form.leases.uses form.leases.members;
@@ -103,7 +103,7 @@ form_left old asked none form = record {
 
 form_again : (old : Cluster) → HasForm old → HasForm (record old { core = restarted old.core })
 form_again old form = record {
-  core = again old.core form.core;
+  core = formed_again old.core form.core;
   leases = record { uses = uses_again old.core old.ledger form.leases.uses; members = tt };
   routes = record {
     pushes = push_routes_again old.core old.pushed form.routes.pushes;
@@ -116,7 +116,7 @@ form_kept = uses_kept HasForm same_form form_left form_again
 
 pub form_always : HoldsAlways HasForm
 form_always = always HasForm form_kept (λ node. record {
-  core = at_first;
+  core = formed_at_first;
   leases = record { uses = no_uses empty; members = tt };
   routes = record {
     pushes = record {

@@ -31,3 +31,6 @@ pub mod MembersKept
 pub mod PushRoutes
 pub mod JobRoutes
 pub mod FormKept
+pub mod LeftVotes
+pub mod LeftBooks
+pub mod LeftKept

@@ -1,5 +1,5 @@
 -- Transactions stand in the order of their numbers, after one was registered, changed or closed.
-use Rattle.std.proofs.Common.{◌≡◌, ◌<◌, ◌≤◌, ◌+◌, ℕ, [], ◌∷◌, ◌++◌, Bool, None, Some, refl, sym, ◌∙◌, ap, subst, inl, inr, arith}
+use Rattle.std.proofs.Common.{◌≡◌, ◌<◌, ◌≤◌, ◌+◌, ◌==◌, ℕ, [], ◌∷◌, ◌++◌, Bool, false, None, Some, refl, sym, ◌∙◌, ap, subst, inl, inr, arith}
 use Rattle.std.specs.BTreeMap.{insert_entry, is_at}
 use Rattle.std.specs.Cmp.{nat_cmp_is}
 use Rattle.std.specs.List.{AllByRecursion}
@@ -7,11 +7,21 @@ use Rattle.std.specs.Map.{lookup, remove_entry, set_value}
 use Rattle.std.specs.Ordering.{is_eq, nat_cmp}
 use Rattle.std.specs.declared.cmp.Ordering.TheVariants.{Equal, Greater}
 use Rattle.px_base.specs.declared.ids.TxId.{TxId}
-use Rattle.txmanager.proofs.RegistryLemmas.{apart}
+use Rattle.txmanager.proofs.RegistryLemmas.{apart, found_is}
 use Rattle.txmanager.specs.Registry.{Registry, transaction_at, with_registered}
 use Rattle.txmanager.specs.Voting.{Voting}
 use Rattle.cluster_form.specs.Turns.{AreNumbered, AreRising}
-use Rattle.cluster_form.proofs.Lists.{all_both, all_such, bool}
+use Rattle.cluster_form.proofs.Lists.{all_both, all_such, bool, other_number}
+
+-- ---- transactions and their numbers
+
+-- they are the same where their numbers are
+pub same_tx : (one other : TxId) → one.0 ≡ other.0 → one ≡ other
+same_tx one other same = ap (λ n. let tx : TxId = record { 0 = n } in tx) same
+
+-- and differ where those do
+pub apart_tx : (one other : TxId) → (one.0 == other.0) ≡ false → one ≡ other → ⊥
+apart_tx one other fails same = other_number one.0 other.0 fails (ap (λ (t : TxId). t.0) same)
 
 -- ---- numbers, after a change
 
@@ -126,3 +136,26 @@ found_set number (entry ∷ entries) old new is = elim (bool (is_at (nat_cmp num
   | inl holds ↦ (rw holds (rw holds refl))
   | inr fails ↦ (rw fails (rw fails (found_set number entries old new (rw fails at is))))
 ]
+
+-- ---- a transaction that is closed is found no more
+
+module _ (number : ℕ) where
+  -- it is not among greater ones
+  none_above : (entries : Registry)
+      → AllByRecursion (λ (entry : ℕ × Voting). number < entry.0) entries
+      → lookup (is_at (nat_cmp number)) entries ≡ None
+  none_above [] above = refl
+  none_above (entry ∷ entries) above =
+      let first : number < entry.0 = above.0 in
+      rw (apart number entry.0 (λ same. omega (arith, first, same))) (none_above entries above.1)
+
+  -- .. and once at most among those that rise
+  pub none_left : (entries : Registry) → AreRising entries
+      → lookup (is_at (nat_cmp number)) (remove_entry (is_at (nat_cmp number)) entries) ≡ None
+  none_left [] rise = refl
+  none_left (entry ∷ entries) rise = elim (bool (is_at (nat_cmp number) entry.0)) [
+    | inl holds ↦ (rw holds (none_above entries
+        (subst (λ n. AllByRecursion (λ (later : ℕ × Voting). n < later.0) entries)
+        (sym (found_is number entry.0 holds)) rise.0)))
+    | inr fails ↦ (rw fails (rw fails (none_left entries rise.1)))
+  ]

@@ -1,5 +1,5 @@
 -- Transactions and turns keep their form where one is opened, changed, closed or marked.
-use Rattle.std.proofs.Common.{◌≡◌, ◌<◌, ◌+◌, ◌==◌, ℕ, not, List, [], ◌∷◌, ◌++◌, Bool, false, if◌then◌else◌, Option, None, Some, Result, Ok, Err, refl, sym, ◌∙◌, ap, subst, inl, inr, map, filter, length, arith}
+use Rattle.std.proofs.Common.{◌≡◌, ◌<◌, ◌+◌, ◌==◌, ℕ, not, List, [], ◌∷◌, ◌++◌, Bool, true, false, if◌then◌else◌, Option, None, Some, Result, Ok, Err, refl, sym, ◌∙◌, ap, subst, inl, inr, map, filter, length, arith}
 use Rattle.std.specs.BTreeMap.{is_at}
 use Rattle.std.specs.List.{AllByRecursion}
 use Rattle.std.specs.Option.{option_map}
@@ -10,18 +10,22 @@ use Rattle.px_base.specs.declared.phase.Phase.{Phase}
 use Rattle.txmanager.proofs.CarryLemmas.{act_step, after_acts-append}
 use Rattle.txmanager.proofs.ChainLemmas.{KeepEach}
 use Rattle.txmanager.proofs.RegistryLemmas.{other_closed, other_registered, other_with}
+use Rattle.txmanager.specs.Readings.{outcome_in}
 use Rattle.txmanager.specs.Registry.{Registry, transaction_at, with_registered, with_transaction, without_transaction}
 use Rattle.txmanager.specs.Rounds.{TxAct, CancelVoter, Cast, Stop, after_act}
 use Rattle.txmanager.specs.VoterCalls.{after_cancel_voter, after_cast, cancel_voter_answer, cast_answer}
 use Rattle.txmanager.specs.Voting.{Voting, after_stop, number_of, stop_answer, unless_err, with_act, with_act_by}
 use Rattle.txmanager.specs.declared.refusal.TxRefusal.{TxRefusal}
 use Rattle.voters.specs.Votes.{Votes}
+use Rattle.voters.specs.declared.outcome.Outcome.{Outcome}
+use Rattle.voters.specs.declared.outcome.Outcome.TheVariants as outcome
 use Rattle.px_cluster.specs.Book.{Storage}
 use Rattle.px_cluster.specs.Core.{OpenPush}
+use Rattle.px_cluster.specs.Pushes.{is_open, outcome_or_open, prepared_outcome}
 use Rattle.cluster_form.specs.Turns.{AreDistinct, AreInOrder, AreTurnsOf, IsBehind, IsTurn, IsVoteOf}
 use Rattle.cluster_form.proofs.JobLists.{all_two}
-use Rattle.cluster_form.proofs.Lists.{all_both, all_filter, all_map, all_such, bool, choose, if_kept, other_number, same_number, some_is}
-use Rattle.cluster_form.proofs.Registries.{found_set, numbered_more, numbered_removed, numbered_set}
+use Rattle.cluster_form.proofs.Lists.{all_both, all_filter, all_map, all_such, bool, choose, if_kept, same_number, some_is}
+use Rattle.cluster_form.proofs.Registries.{apart_tx, found_set, numbered_more, numbered_removed, numbered_set, same_tx}
 
 order_filtered : (test : OpenPush → Bool) (pushes : List OpenPush) → AreInOrder pushes
     → AreInOrder (filter test pushes)
@@ -40,25 +44,50 @@ length_kept (sub ∷ old) [] keeps = absurd keeps
 length_kept (sub ∷ old) (next ∷ new) keeps =
     let rest = length_kept old new keeps.1 in omega (arith, rest)
 
--- it stays a vote of the push
+-- where it is open after an act, it was open before
+open_before : (was now : Outcome) → ((was ≡ outcome.Open → ⊥) → now ≡ was) → is_open now ≡ true
+    → is_open was ≡ true
+open_before outcome.Open now keeps is = refl
+open_before (outcome.Commit hash) now keeps is =
+    subst (λ o. is_open o ≡ true) (keeps (λ same. cc)) is
+open_before outcome.Fail now keeps is = subst (λ o. is_open o ≡ true) (keeps (λ same. cc)) is
+open_before outcome.Stop now keeps is = subst (λ o. is_open o ≡ true) (keeps (λ same. cc)) is
+
+prepared_before : (old new : List Votes) → KeepEach old new
+    → is_open (outcome_or_open (outcome_in 0 new)) ≡ true
+    → is_open (outcome_or_open (outcome_in 0 old)) ≡ true
+prepared_before [] [] keeps is = refl
+prepared_before [] (sub ∷ new) keeps is = absurd keeps
+prepared_before (sub ∷ old) [] keeps is = absurd keeps
+prepared_before (sub ∷ old) (next ∷ new) keeps is =
+    open_before sub.outcome next.outcome keeps.0.outcome is
+
+-- it stays a vote of the push, and its first phase is open only where that was open before
+pub record StaysVote (storages : List Storage) (members_ : List ℕ) (old new : Voting) : Type 0 where
+  pub sound : IsVoteOf storages members_ new
+  pub before : is_open (prepared_outcome new) ≡ true → is_open (prepared_outcome old) ≡ true
+
 abbrev pub LeadsOn : Voting → Voting → Type 0
 LeadsOn old new = (storages : List Storage) (members_ : List ℕ) → IsVoteOf storages members_ old
-    → IsVoteOf storages members_ new
+    → StaysVote storages members_ old new
 
 pub led_on : (old : Voting) (act : TxAct) → LeadsOn old (with_act old act)
 led_on old act storages members_ is =
     let step = act_step act old.subs is.chain in
     record {
-      voters = is.voters;
-      acts = is.acts ++ act ∷ [];
-      subs = ap (λ subs. after_act subs act) is.subs
-          ∙ sym (after_acts-append is.acts (act ∷ []) _);
-      chain = step.chain;
-      phases = length_kept old.subs (after_act old.subs act) step.keeps ∙ is.phases;
+      sound = record {
+        voters = is.voters;
+        acts = is.acts ++ act ∷ [];
+        subs = ap (λ subs. after_act subs act) is.subs
+            ∙ sym (after_acts-append is.acts (act ∷ []) _);
+        chain = step.chain;
+        phases = length_kept old.subs (after_act old.subs act) step.keeps ∙ is.phases;
+      };
+      before = prepared_before old.subs (after_act old.subs act) step.keeps;
     }
 
 stays_so : (old : Voting) → LeadsOn old old
-stays_so old storages members_ is = is
+stays_so old storages members_ is = record { sound = is; before = λ still. still }
 
 by_voter : (old : Voting) (voter : Option ℕ) (act : ℕ → TxAct)
     → LeadsOn old (with_act_by old voter act)
@@ -84,15 +113,12 @@ by_stop old = unless_refused (stop_answer old) old (with_act old Stop) (led_on o
 
 -- ---- one transaction changed
 
-tx_is : (a b : TxId) → a.0 ≡ b.0 → a ≡ b
-tx_is a b same = ap (λ n. let tx : TxId = record { 0 = n } in tx) same
-
 module _ (storages : List Storage) (last : ℕ) (transactions : Registry) (tx : TxId) where
   turn_set : (old new : Voting) → transaction_at transactions tx ≡ Some old → LeadsOn old new
       → (push : OpenPush) → IsTurn storages transactions last push
       → IsTurn storages (with_transaction transactions tx (Some new)) last push
   turn_set old new there leads push turn = elim (bool (push.tx.0 == tx.0)) [
-    | inl holds ↦ (let same = tx_is push.tx tx (same_number push.tx.0 tx.0 holds) in
+    | inl holds ↦ (let same = same_tx push.tx tx (same_number push.tx.0 tx.0 holds) in
         let vote : turn.vote ≡ old =
         some_is turn.vote old (sym turn.registered ∙ ap (transaction_at transactions) same ∙ there)
         in record {
@@ -100,8 +126,8 @@ module _ (storages : List Storage) (last : ℕ) (transactions : Registry) (tx : 
           vote = new;
           registered = ap (transaction_at (with_transaction transactions tx (Some new))) same
               ∙ found_set tx.0 transactions old new there;
-          sound = leads storages push.members
-              (subst (λ v. IsVoteOf storages push.members v) vote turn.sound);
+          sound = (leads storages push.members
+              (subst (λ v. IsVoteOf storages push.members v) vote turn.sound)).sound;
           some = turn.some;
           distinct = turn.distinct;
           known = turn.known;
@@ -109,8 +135,7 @@ module _ (storages : List Storage) (last : ℕ) (transactions : Registry) (tx : 
     | inr fails ↦ record {
       given = turn.given;
       vote = turn.vote;
-      registered = other_with transactions tx push.tx (Some new)
-          (λ same. other_number push.tx.0 tx.0 fails (ap (λ (t : TxId). t.0) same))
+      registered = other_with transactions tx push.tx (Some new) (apart_tx push.tx tx fails)
           ∙ turn.registered;
       sound = turn.sound;
       some = turn.some;
@@ -147,9 +172,8 @@ module _ (storages : List Storage) (last : ℕ) (transactions : Registry) (tx : 
   turn_left push other turn = record {
     given = turn.given;
     vote = turn.vote;
-    registered = other_closed transactions tx push.tx
-        (λ same. other_number push.tx.0 tx.0 other (ap (λ (t : TxId). t.0) same))
-        ∙ turn.registered;
+    registered =
+        other_closed transactions tx push.tx (apart_tx push.tx tx other) ∙ turn.registered;
     sound = turn.sound;
     some = turn.some;
     distinct = turn.distinct;

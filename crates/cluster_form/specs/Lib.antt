@@ -8,3 +8,4 @@ pub mod Homes
 pub mod Drawn
 pub mod Routes
 pub mod Form
+pub mod Left

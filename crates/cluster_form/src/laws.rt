@@ -2,16 +2,18 @@
 //! effects whose answers are lost, and of losses of pushes that were ready. A law is a function with
 //! nothing in it: what it ensures is proved for all values.
 
-ghost use Rattle.cluster_form.specs.Always.{HoldsAlways, IsKept, OfCore};
+ghost use Rattle.cluster_form.specs.Always.{HoldsAlways, IsKept, IsKeptByOps, IsKeptByRestarts, OfCore};
 ghost use Rattle.cluster_form.specs.Books.{AreBooks};
 ghost use Rattle.cluster_form.specs.Drawn.{AreLeasesDrawn};
 ghost use Rattle.cluster_form.specs.Form.{HasForm};
 ghost use Rattle.cluster_form.specs.Homes.{AreJobsHome};
 ghost use Rattle.cluster_form.specs.Jobs.{AreJobs};
+ghost use Rattle.cluster_form.specs.Left.{AreLeft, IsFormedAndLeft};
 ghost use Rattle.cluster_form.specs.Routes.{AreRoutes};
 ghost use Rattle.cluster_form.specs.Tables.{AreTables};
 ghost use Rattle.cluster_form.specs.Turns.{AreTurns};
 ghost use Rattle.cluster_form.specs.Within.{AreWithin};
+ghost use Rattle.px_cluster.specs.Core.{empty};
 
 /// Each move keeps the form of the data: all that the laws below say, together. So it is there after
 /// every list of moves from an empty book on, restarts among them, whatever the nodes held before.
@@ -63,4 +65,20 @@ pub fn effects_have_leases_that_were_drawn()
 /// an open push to its own. Each job that was ever taken leads to a replica of its repository.
 pub fn effects_go_where_they_were_issued()
     ensures { HoldsAlways AreRoutes }
+{}
+
+/// As long as the prepared phase of an open push is open, the newest generation of its repository is
+/// below 2^64 - 1, so that the vote that decides can raise it. Each move keeps that, together with the
+/// form of the core.
+pub fn a_generation_is_left_for_each_open_push()
+    ensures step { IsKept (OfCore IsFormedAndLeft) }
+    ensures run { HoldsAlways (OfCore AreLeft) }
+{}
+
+/// The same of a core alone, whose nodes are not seen: each operation keeps both, whatever the nodes
+/// answered, and so does a restart; and both are so without storages.
+pub fn each_operation_keeps_the_core()
+    ensures step { IsKeptByOps IsFormedAndLeft }
+    ensures restart { IsKeptByRestarts IsFormedAndLeft }
+    ensures start { IsFormedAndLeft empty }
 {}

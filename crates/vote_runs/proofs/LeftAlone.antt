@@ -20,7 +20,7 @@ use Rattle.cluster_form.proofs.Lists.{bool, choose, same_number}
 use Rattle.cluster_form.proofs.Registries.{found_set}
 use Rattle.vote_runs.specs.Complete.{hinders}
 use Rattle.vote_runs.proofs.Registers.{OfVotes, by_book, cast_booked, creates, dequeues, ends}
-use Rattle.vote_runs.proofs.Transactions.{apart_tx, same_tx}
+use Rattle.cluster_form.proofs.Registries.{apart_tx, same_tx}
 
 -- ---- the push among others
 

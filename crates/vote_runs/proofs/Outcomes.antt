@@ -7,6 +7,7 @@ use Rattle.std.specs.Ordering.{nat_cmp}
 use Rattle.px_base.specs.declared.ids.TxId.{TxId}
 use Rattle.txmanager.proofs.CarryLemmas.{after_acts-append}
 use Rattle.txmanager.proofs.LawLemmas.{keeps_outcome}
+use Rattle.txmanager.proofs.RegistryLemmas.{found_is}
 use Rattle.txmanager.specs.Readings.{outcome_in}
 use Rattle.txmanager.specs.Registry.{Registry}
 use Rattle.txmanager.specs.Rounds.{after_acts}
@@ -21,7 +22,7 @@ use Rattle.cluster_form.proofs.Lists.{bool, some_is}
 use Rattle.cluster_form.specs.Form.{HasForm}
 use Rattle.vote_runs.specs.Acts.{IsLedOn, IsOfPoll}
 use Rattle.vote_runs.specs.Outcomes.{OutcomesStay}
-use Rattle.vote_runs.proofs.Transactions.{goes_on_by_acts, is_query, transactions_are_of_polls}
+use Rattle.vote_runs.proofs.Transactions.{goes_on_by_acts, transactions_are_of_polls}
 
 -- a transaction on record has a number that was given
 module _ (last : ℕ) (tx : TxId) (vote : Voting) where
@@ -30,7 +31,7 @@ module _ (last : ℕ) (tx : TxId) (vote : Voting) where
       → lookup (is_at (nat_cmp tx.0)) entries ≡ Some vote → tx.0 ≤ last
   given_so [] given is = absurd (let none : None ≡ Some vote = is in cc)
   given_so (entry ∷ entries) given is = elim (bool (is_at (nat_cmp tx.0) entry.0)) [
-    | inl holds ↦ subst (λ n. n ≤ last) (sym (is_query tx.0 entry.0 holds)) given.0
+    | inl holds ↦ subst (λ n. n ≤ last) (sym (found_is tx.0 entry.0 holds)) given.0
     | inr fails ↦ given_so entries given.1 (rw fails at is)
   ]
 

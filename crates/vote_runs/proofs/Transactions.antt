@@ -1,12 +1,8 @@
 -- Each transaction on record is what acts made of its opening, and acts lead it on.
-use Rattle.std.proofs.Common.{◌≡◌, ◌<◌, ◌≤◌, ◌+◌, ◌==◌, ℕ, List, [], ◌∷◌, ◌++◌, true, false, Option, None, Some, refl, sym, ◌∙◌, ap, subst, inl, inr, arith}
-use Rattle.std.specs.BTreeMap.{is_at}
-use Rattle.std.specs.List.{AllByRecursion}
-use Rattle.std.specs.Map.{lookup, remove_entry}
-use Rattle.std.specs.Ordering.{nat_cmp}
+use Rattle.std.proofs.Common.{◌≡◌, ◌≤◌, ◌+◌, ◌==◌, ℕ, List, [], ◌∷◌, ◌++◌, Option, None, Some, refl, sym, ◌∙◌, ap, subst, inl, inr, arith}
 use Rattle.px_base.specs.declared.ids.TxId.{TxId}
 use Rattle.txmanager.proofs.CarryLemmas.{after_acts-append}
-use Rattle.txmanager.proofs.RegistryLemmas.{apart, other_closed, other_registered, other_with}
+use Rattle.txmanager.proofs.RegistryLemmas.{other_closed, other_registered, other_with}
 use Rattle.txmanager.specs.Registry.{Registry, transaction_at, with_registered, with_transaction, without_transaction}
 use Rattle.txmanager.specs.Rounds.{after_acts}
 use Rattle.txmanager.specs.Voting.{Voting}
@@ -19,10 +15,10 @@ use Rattle.cluster_form.specs.Books.{AreBooks}
 use Rattle.cluster_form.proofs.BooksKept.{books_again, books_left, no_books}
 use Rattle.cluster_form.proofs.Induction.{always, first_none}
 use Rattle.cluster_form.specs.Form.{HasForm}
-use Rattle.cluster_form.specs.Turns.{AreRising, AreTurns}
+use Rattle.cluster_form.specs.Turns.{AreTurns}
 use Rattle.cluster_form.proofs.FormKept.{form_always}
-use Rattle.cluster_form.proofs.Lists.{bool, other_number, same_number}
-use Rattle.cluster_form.proofs.Registries.{found_registered, found_set}
+use Rattle.cluster_form.proofs.Lists.{bool, same_number}
+use Rattle.cluster_form.proofs.Registries.{apart_tx, found_registered, found_set, none_left, same_tx}
 use Rattle.cluster_form.proofs.TurnsKept.{no_turns, turns_again, turns_left}
 use Rattle.cluster_form.proofs.Uses.{uses_kept}
 use Rattle.vote_runs.specs.Acts.{IsLedOn, IsOfPoll, TransactionsAreOfPolls, TransactionsGoOnByActs, WasOnRecord}
@@ -68,44 +64,6 @@ module _ (R : ℕ → Registry → Type 0) (is : IsOfRegistry R) where
       ))
 
 -- ---- what is true of one transaction
-
--- transactions are the same where their numbers are
-pub same_tx : (one other : TxId) → one.0 ≡ other.0 → one ≡ other
-same_tx one other same = ap (λ n. let tx : TxId = record { 0 = n } in tx) same
-
--- and differ where those do
-pub apart_tx : (one other : TxId) → (one.0 == other.0) ≡ false → one ≡ other → ⊥
-apart_tx one other fails same = other_number one.0 other.0 fails (ap (λ (t : TxId). t.0) same)
-
--- a transaction that is closed is found no more
-module _ (number : ℕ) where
-  -- a number that a query finds is the one that was asked for
-  pub is_query : (other : ℕ) → is_at (nat_cmp number) other ≡ true → number ≡ other
-  is_query other holds = elim (bool (number == other)) [
-    | inl same ↦ same_number number other same
-    | inr fails ↦ absurd (let z : true ≡ false =
-        sym holds ∙ apart number other (other_number number other fails) in cc)
-  ]
-
-  -- it is not among greater ones
-  none_above : (entries : Registry)
-      → AllByRecursion (λ (entry : ℕ × Voting). number < entry.0) entries
-      → lookup (is_at (nat_cmp number)) entries ≡ None
-  none_above [] above = refl
-  none_above (entry ∷ entries) above =
-      let first : number < entry.0 = above.0 in
-      rw (apart number entry.0 (λ same. omega (arith, first, same))) (none_above entries above.1)
-
-  -- .. and once at most among those that rise
-  none_left : (entries : Registry) → AreRising entries
-      → lookup (is_at (nat_cmp number)) (remove_entry (is_at (nat_cmp number)) entries) ≡ None
-  none_left [] rise = refl
-  none_left (entry ∷ entries) rise = elim (bool (is_at (nat_cmp number) entry.0)) [
-    | inl holds ↦ (rw holds (none_above entries
-        (subst (λ n. AllByRecursion (λ (later : ℕ × Voting). n < later.0) entries)
-        (sym (is_query entry.0 holds)) rise.0)))
-    | inr fails ↦ (rw fails (rw fails (none_left entries rise.1)))
-  ]
 
 -- what is true by the last number, and by what is found of one transaction
 pub record IsOfOne (tx : TxId) (Q : ℕ → Option Voting → Type 0) : Type 0 where

@@ -1,5 +1,5 @@
 -- The nodes of the empty cluster are fit to begin with.
-use Rattle.std.proofs.Common.{ℕ, ◌≡◌, None, Some, refl}
+use Rattle.std.proofs.Common.{◌≡◌, None, Some, refl}
 use Rattle.node_calls.proofs.WholeLemmas.{nothing_is_whole}
 use Rattle.cluster_runs.specs.Lists.{EmptyNodesAreFit}
 

@@ -16,17 +16,18 @@ pub fn each_move_is_events_of_each_repository()
 {}
 
 /// Over every list of moves from an empty book on, restarts among them, whatever whole repositories the
-/// nodes hold before: where no two different lists of updates that are prepared under one transaction
-/// share a vote, every state is safe, and so is every later one; each repository stays on record, and
-/// what happens to it is a list of its own events; and all that the references of a repository at a node
-/// lead to is there. Nodes that hold nothing are such nodes.
+/// nodes hold before, with no push ready and what each committed last below its fence: where the updates
+/// that are prepared are such as the type of pushes keeps them, and no two different lists of them under
+/// one transaction share a vote, every state is safe, and so is every later one; each repository stays
+/// on record, and what happens to it is a list of its own events; and all that the references of a
+/// repository at a node lead to is there. Nodes that hold nothing are such nodes.
 pub fn every_run_is_safe()
     ensures run { EveryRunIsSafe }
     ensures start { EmptyNodesAreFit }
 {}
 
-/// The generation that a replica is booked at never falls, also over a time in which it is booked
-/// absent.
+/// The generation of a booking never falls: that which a replica is booked at, or held before it came in
+/// doubt. Nor does it over a time in which it is booked absent.
 pub fn a_booking_never_falls()
     ensures { BookingsNeverFall }
 {}

@@ -1,6 +1,6 @@
 -- Nothing falls.
-use Rattle.std.proofs.Common.{◌≡◌, ℕ, ◌+◌, ◌≤◌, if◌then◌else◌, Option, Some, None, Bool, true, false, inl, inr, refl, sym, ◌∙◌, ap, arith}
-use Rattle.replica_invariant.specs.Booking.{Absent, At, Booking, Doubt}
+use Rattle.std.proofs.Common.{◌≡◌, ◌≢◌, ℕ, ◌+◌, ◌≤◌, if◌then◌else◌, Option, Some, None, Bool, true, false, inl, inr, refl, sym, ◌∙◌, ap, arith}
+use Rattle.replica_invariant.specs.Booking.{Absent, At, Booking, Doubt, generation}
 use Rattle.replica_invariant.specs.Contents.{Content}
 use Rattle.replica_invariant.specs.Creations.{drawn}
 use Rattle.replica_invariant.specs.Invariant.{Invariant}
@@ -228,11 +228,20 @@ leads_grows _ _ i (Then old st new l e) =
 pub nothing_falls : NothingFalls
 nothing_falls = leads_grows
 
+-- the floor of a replica that is booked at a generation, or in doubt, is that of the booking
+booked_floor : (st : State) (s : ℕ) → Invariant st → (b : Booking) → (st.replica s).booking ≡ b
+    → b ≢ Absent → (st.replica s).floor ≡ Some (generation b)
+booked_floor st s i Absent e booked = absurd (booked refl)
+booked_floor st s i (At g) e booked = (i.replicas s).book.at g e
+booked_floor st s i (Doubt l w d) e booked = ((i.replicas s).book.doubt l w d e).floor
+
 pub a_booking_never_falls : BookingsGrow
-a_booking_never_falls old new s a b i l e q =
-    let f = (leads_grows old new i l).floor s a ((i.replicas s).book.at a e) in
-    let g = ((leads_keeps old new i l).replicas s).book.at b q in
-    let z : Some (f.0) ≡ Some b = sym f.1 ∙ g in let y : f.0 ≡ b = cc in omega (arith, f.2, y)
+a_booking_never_falls old new s i l before after =
+    let first = booked_floor old s i (old.replica s).booking refl before in
+    let f = (leads_grows old new i l).floor s (generation (old.replica s).booking) first in
+    let last = booked_floor new s (leads_keeps old new i l) (new.replica s).booking refl after in
+    let z : Some (f.0) ≡ Some (generation (new.replica s).booking) = sym f.1 ∙ last in
+    let y : f.0 ≡ generation (new.replica s).booking = cc in omega (arith, f.2, y)
 
 module _ (old new : State) (s a : ℕ) (i : Invariant old) (l : LeadsTo old new)
     (e : (old.replica s).booking ≡ At a) where

@@ -1,6 +1,6 @@
 -- What never falls, and what a read that was routed is answered later.
-use Rattle.std.specs.Prelude.{◌≡◌, ◌≤◌, ℕ, false, true, Some}
-use Rattle.replica_invariant.specs.Booking.{Absent, At}
+use Rattle.std.specs.Prelude.{◌≡◌, ◌≢◌, ◌≤◌, ℕ, false, true, Some}
+use Rattle.replica_invariant.specs.Booking.{Absent, At, generation}
 use Rattle.replica_invariant.specs.Contents.{Content}
 use Rattle.replica_invariant.specs.Invariant.{Invariant}
 use Rattle.replica_invariant.specs.State.{Shared, State}
@@ -33,11 +33,11 @@ pub data LeadsTo : State → State → Type 0 where
 abbrev pub NothingFalls : Type 0
 NothingFalls = (old new : State) → Invariant old → LeadsTo old new → Grows old new
 
--- the generation of a booking, also over a time of absence
+-- the generation of a booking at one or in doubt, also over a time of absence
 abbrev pub BookingsGrow : Type 0
-BookingsGrow = (old new : State) (storage before now : ℕ) → Invariant old → LeadsTo old new
-    → (old.replica storage).booking ≡ At before → (new.replica storage).booking ≡ At now
-    → before ≤ now
+BookingsGrow = (old new : State) (storage : ℕ) → Invariant old → LeadsTo old new
+    → (old.replica storage).booking ≢ Absent → (new.replica storage).booking ≢ Absent
+    → generation (old.replica storage).booking ≤ generation (new.replica storage).booking
 
 -- A read is routed to a replica that is booked at a generation, and its node is asked later: it
 -- holds the content of that generation or of a later one, or nothing, and then a delete was taken.

@@ -35,7 +35,8 @@ pub fn nothing_falls()
     ensures { NothingFalls }
 {}
 
-/// So the generation of a booking never falls, also over a time of absence.
+/// So the generation of a booking never falls: that which a replica is booked at, or held before it came
+/// in doubt. Nor does it over a time of absence.
 pub fn a_booking_never_falls()
     ensures { BookingsGrow }
 {}

@@ -1,2 +1,6 @@
-mod Indexed
+mod Admissions
+mod Creations
+mod Found
+mod IndexLemmas
+mod Places
 mod Storages

@@ -1,5 +1,10 @@
+pub mod Admissions
 pub mod Books
 pub mod Calls
 pub mod Changes
-pub mod Paths
+pub mod Creations
+pub mod Health
+pub mod Index
+pub mod Longer
+pub mod Places
 pub mod Rules

@@ -5,22 +5,26 @@ ghost use Rattle.std.specs.Option.{option_copied};
 ghost use Rattle.px_ops.specs.declared.refusal.Refusal.TheVariants as refusal;
 ghost use Rattle.px_cluster.specs.Book.{booking_on, has_replica_on, in_doubt, booked, kept_on, replica_on, with_lease_for, with_replica_on};
 ghost use Rattle.px_cluster.specs.Casts.{confirmed};
-ghost use Rattle.px_cluster.specs.Creating.{created_on, enrolled, is_blank, lease_lost};
+ghost use Rattle.px_cluster.specs.Creating.{created_on, enrolled, is_at_path, is_blank, lease_lost};
 ghost use Rattle.px_cluster.specs.Ids.{gen, storage_number};
 ghost use Rattle.px_cluster.specs.Refusals.{generations_spent, leases_spent};
 ghost use Rattle.px_cluster.specs.Repairs.{accepted, settled};
 ghost use Rattle.genbook.specs.Calls.{accept_cause, accept_draw_cause, doubt_cause, enrol_cause, settle_cause, settle_draw_cause};
 ghost use Rattle.genbook.specs.Changes.{numbers_of, unmade_with};
+ghost use Rattle.genbook.specs.Books.{IsNamedAs};
+ghost use Rattle.genbook.specs.Longer.{longer_for, with_longer};
 ghost use Rattle.genbook.specs.Rules.{CameLate, Decides, DrawsForMembers};
 
 use crate::replicas::{are_absent, assign_under, change_on, change_on_each, replica_on};
-use crate::{Change, Replica};
+use crate::{Change, Longer, Replica};
 use px_base::{Gen, Lease, RepoPath, StorageId, StorageName};
 use px_ops::{Booking, Refusal};
+use std::alloc::{AllocError, Global};
 use std::marker::Model;
 
 /// What the book has of a repository: its newest generation, its leases, and a replica for each
-/// storage of its virtual storage, in the order of their numbers.
+/// storage of its virtual storage, in the order of their numbers. The replicas are those that it
+/// was made with, and one more for each admission since. The type does not test them.
 #[derive(Drop)]
 pub struct Repository {
     virt: StorageName,
@@ -71,9 +75,27 @@ impl Repository {
         }
     }
 
+    /// A copy of it.
+    pub fn copy(&self, alloc: Global) -> Result<Repository, AllocError>
+        ensures { IfOk result (λ copied. copied ≡ self.now) }
+    {
+        let path = self.path.copy(alloc)?;
+        let replicas = Vec::from_slice(alloc, &self.replicas)?;
+        Ok(Repository {
+            virt: self.virt,
+            path,
+            newest: self.newest,
+            last: self.last,
+            creation: self.creation,
+            primary: self.primary,
+            replicas,
+        })
+    }
+
     /// Draws one lease for the members of a push, the first of which is kept as its primary.
     pub fn draw_for_members(&mut self, members: &[StorageId]) -> Result<Lease, Refusal>
         ensures ok { OnOk result (DrawsForMembers members.now self.old self.new) }
+        ensures named { IsNamedAs self.old self.new }
         ensures value { IfOk result (λ lease. lease ≡ self.old.last + 1) }
         ensures accepted { OnOk result (leases_spent self.old.last ≡ None) }
         ensures refused { IfErr result (λ why. leases_spent self.old.last ≡ Some why) }
@@ -154,6 +176,7 @@ impl Repository {
     pub fn decide(&mut self, lease: Lease, told: &[StorageId]) -> Gen
         requires { self.old.newest < 2 ^ 64 - 1 }
         ensures ok { Decides lease told.now self.old self.new }
+        ensures named { IsNamedAs self.old self.new }
         ensures value { result.0 ≡ self.new.newest }
         ensures rises { result.0 ≡ self.old.newest + 1 }
     {
@@ -165,7 +188,8 @@ impl Repository {
 
     /// A storage voted after the decision of the push under this lease, and is told to commit.
     pub fn tell_late(&mut self, lease: Lease, storage: StorageId)
-        ensures { CameLate lease storage.0 self.old self.new }
+        ensures ok { CameLate lease storage.0 self.old self.new }
+        ensures named { IsNamedAs self.old self.new }
     {
         let due = self.newest;
         change_on(&mut self.replicas, storage, &Change::Tell { lease, due });
@@ -260,6 +284,33 @@ impl Repository {
         replica_on(&self.replicas, storage)
     }
 
+    /// The replicas that it has once this storage of this virtual storage is admitted.
+    pub(crate) fn longer(
+        &self,
+        alloc: Global,
+        virt: &StorageName,
+        storage: StorageId,
+    ) -> Result<Longer, AllocError>
+        ensures { IfOk result (λ longer. longer ≡ longer_for virt.now storage.0 self.now) }
+    {
+        if self.virt.as_bytes() != virt.as_bytes() {
+            return Ok(Longer::same());
+        }
+        let mut replicas = Vec::with_capacity(alloc, self.replicas.len() + 1)?;
+        replicas.extend_from_slice(&self.replicas)?;
+        replicas.push(Replica::unrecorded(storage, no_lease()))?;
+        Ok(Longer::of(replicas))
+    }
+
+    /// It has these replicas now, where they are others.
+    pub(crate) fn lengthen(&mut self, longer: Longer)
+        ensures { self.new ≡ with_longer longer self.old }
+    {
+        if let Some(replicas) = longer.replicas() {
+            self.replicas = replicas;
+        }
+    }
+
     /// Whether nothing is known of any of its replicas, so that it may be created again.
     pub fn is_blank(&self) -> bool
         ensures { result ≡ is_blank self.now }
@@ -272,6 +323,13 @@ impl Repository {
         ensures { result.now ≡ self.now.replicas }
     {
         &self.replicas
+    }
+
+    /// Whether it is that of a virtual storage and a path.
+    pub fn is_at(&self, virt: &StorageName, path: &RepoPath) -> bool
+        ensures { result ≡ is_at_path virt.now path.now self.now }
+    {
+        self.virt.as_bytes() == virt.as_bytes() && self.path.as_bytes() == path.as_bytes()
     }
 
     /// Its virtual storage.

@@ -1,0 +1,4 @@
+mod Begins
+mod Changes
+mod Holders
+mod Pushes

@@ -1,0 +1,2 @@
+mod Clusters
+mod Ledgers

@@ -1,0 +1,16 @@
+use Rattle.std.proofs.Common.{ap, refl, subst, ◌∙◌}
+use Rattle.std.specs.Option.{IsSome, option_flatten}
+use Rattle.px_cluster.specs.Ledger.{answered, with_purpose}
+use Rattle.issued.specs.Draws.{ledger_of}
+use Rattle.issued.specs.Purposes.{purpose_of}
+use Rattle.issued.proofs.Ledgers.{ledger_of-kept}
+use Rattle.issued.proofs.draws.answer.Goals as goal
+
+pub returns-in-Some : goal.returns-in-Some
+returns-in-Some c =
+    let draw = c.args.draw in
+    let old = c.args.draws.now.entries in
+    let there = subst IsSome c.in-Some.ensures.value refl in
+    ledger_of-kept draw c.with_answer.result old _ ((c.get_mut.follows.holds c.with_answer.result).3 there).0
+    ∙ ap (λ purpose. with_purpose (ledger_of old) draw.repo.0 draw.storage.0 draw.lease purpose)
+    (c.with_answer.ensures ∙ ap (λ room. answered (purpose_of (option_flatten room))) c.in-Some.ensures.value)

@@ -1,0 +1,18 @@
+use Rattle.std.proofs.Common.{ap, refl, subst, ◌∙◌}
+use Rattle.std.specs.Option.{IsSome, option_flatten}
+use Rattle.px_cluster.specs.Ledger.{with_commit, with_purpose}
+use Rattle.issued.specs.Draws.{ledger_of}
+use Rattle.issued.specs.Purposes.{purpose_of}
+use Rattle.issued.proofs.Ledgers.{ledger_of-kept, with_purpose-changed}
+use Rattle.issued.proofs.draws.commit.Goals as goal
+
+pub returns-in-Some : goal.returns-in-Some
+returns-in-Some c =
+    let draw = c.args.draw in
+    let hash = c.args.verdict.now.hash in
+    let old = c.args.draws.now.entries in
+    let there = subst IsSome c.in-Some.ensures.value refl in
+    ledger_of-kept draw c.with_commit.result old _ ((c.get_mut.follows.holds c.with_commit.result).3 there).0
+    ∙ ap (λ purpose. with_purpose (ledger_of old) draw.repo.0 draw.storage.0 draw.lease purpose)
+    (c.with_commit.ensures ∙ ap (λ room. with_commit hash (purpose_of (option_flatten room))) c.in-Some.ensures.value)
+    ∙ with_purpose-changed (ledger_of old) draw.repo.0 draw.storage.0 draw.lease (with_commit hash)

@@ -1,0 +1,5 @@
+pub mod Draws
+pub mod Entries
+pub mod Issued
+pub mod Purposes
+pub mod Room

@@ -1,0 +1,4 @@
+mod Added
+pub mod ClusterCalls
+mod Deliveries
+mod NodeLists

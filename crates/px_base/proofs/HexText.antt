@@ -135,7 +135,8 @@ digit_passes v small = elim (cases_lt v 10) [
   | inr high ↦ rw (large_digit v high small) (grind (arith, common_steps))
 ]
 
-digits_pass : (bytes : List ℕ) → IsBytes bytes → AllPass is_hex_digit (encode_lower bytes)
+-- each of the digits of bytes is one in lower case
+pub digits_pass : (bytes : List ℕ) → IsBytes bytes → AllPass is_hex_digit (encode_lower bytes)
 unfolding encode_with
 digits_pass [] each = All-nil (λ (c : ℕ). is_hex_digit c ≡ true)
 digits_pass (b ∷ bytes) each =

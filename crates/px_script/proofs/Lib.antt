@@ -1,6 +1,12 @@
+pub mod ClusterLines
+pub mod CutLemmas
+pub mod EachLemmas
 pub mod LineLemmas
 pub mod NameLemmas
 pub mod NumberLemmas
+pub mod PushLemmas
+pub mod PushLines
+pub mod StepLemmas
 pub mod VoteLines
 pub mod VoterLemmas
 pub mod WordLemmas

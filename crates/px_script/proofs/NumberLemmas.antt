@@ -8,9 +8,9 @@ use Rattle.std.proofs.lemmas.Fmt.{decimal_by_steps, decimal_digit, first_decimal
 use Rattle.std.proofs.lemmas.Grind.{common_steps}
 use Rattle.std.proofs.lemmas.List.Folds.{fold_stays}
 use Rattle.std.proofs.lemmas.List.Sums.{fold-append}
-use Rattle.std.proofs.lemmas.Option.{option_and_then_some}
+use Rattle.std.proofs.lemmas.Option.{cond_some, option_and_then_some}
 use Rattle.std.proofs.lemmas.Str.Parse.{IsNumeralModel, numerals_by_fold}
-use Rattle.px_script.specs.Words.{narrow, number_of, small_of, with_digit}
+use Rattle.px_script.specs.Words.{fitting, lease_of, narrow, number_of, small_of, with_digit}
 use Rattle.px_script.proofs.WordLemmas.{IsWhole, each-from, some_same}
 
 -- each byte is a decimal digit
@@ -107,11 +107,9 @@ number_of-some ds n is =
 
 -- a number that is kept is small
 narrow-some : (m n : ℕ) → narrow m ≡ Some n → (m ≡ n) × (n < 2 ^ 32)
-narrow-some m n is = step (nat_lt m (2 ^ 32)) refl is
-  where
-    step : (t : Bool) → nat_lt m (2 ^ 32) ≡ t → (cond t (Some m) None) ≡ Some n → (m ≡ n) × (n < 2 ^ 32)
-    step true below is = (some_same is, subst (λ k. k < 2 ^ 32) (some_same is) (ltb-true m (2 ^ 32) below))
-    step false above is = cc
+narrow-some m n is =
+    let kept = cond_some (nat_lt m (2 ^ 32)) m n is in
+    (kept.1, subst (λ k. k < 2 ^ 32) kept.1 (ltb-true m (2 ^ 32) kept.0))
 
 -- a small number is read back from its digits
 pub small_of-decimal : (n : ℕ) → n < 2 ^ 32 → small_of (decimal n) ≡ Some n
@@ -123,4 +121,22 @@ small_of-decimal n small =
 pub small_of-some : (ds : List ℕ) (n : ℕ) → small_of ds ≡ Some n → (n < 2 ^ 32) × (decimal n ≡ ds)
 small_of-some ds n is = option_and_then_some narrow (number_of ds) n is (λ m read narrowed.
     let same = narrow-some m n narrowed in
+    (same.1, ap decimal (sym same.0) ∙ (number_of-some ds m read).1))
+
+-- a number that fits is that of a lease
+fitting-some : (m n : ℕ) → fitting m ≡ Some n → (m ≡ n) × (n < 2 ^ 64 - 1)
+fitting-some m n is =
+    let kept = cond_some (nat_lt m (2 ^ 64 - 1)) m n is in
+    (kept.1, subst (λ k. k < 2 ^ 64 - 1) kept.1 (ltb-true m (2 ^ 64 - 1) kept.0))
+
+-- a lease is read back from its digits
+pub lease_of-decimal : (n : ℕ) → n < 2 ^ 64 - 1 → lease_of (decimal n) ≡ Some n
+lease_of-decimal n fits =
+    let wide : n < 2 ^ 64 = omega arith in
+    rw (number_of-decimal n wide, lt-ltb n (2 ^ 64 - 1) fits) refl
+
+-- what is read as a lease is its digits
+pub lease_of-some : (ds : List ℕ) (n : ℕ) → lease_of ds ≡ Some n → (n < 2 ^ 64 - 1) × (decimal n ≡ ds)
+lease_of-some ds n is = option_and_then_some fitting (number_of ds) n is (λ m read kept.
+    let same = fitting-some m n kept in
     (same.1, ap decimal (sym same.0) ∙ (number_of-some ds m read).1))

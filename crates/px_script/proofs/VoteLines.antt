@@ -1,57 +1,47 @@
 -- The lines on votes: an operation is read back from its words, and what is read as one is its words.
-use Rattle.std.proofs.Common.{◌≡◌, ◌<◌, ◌^◌, inl, ℕ, List, [], ◌∷◌, drop, Bool, true, false, cond, Option, None, Some, arith, codes, option_and_then, refl, ap, sym, ◌∙◌, subst}
+use Rattle.std.proofs.Common.{◌≡◌, ◌<◌, ◌^◌, ℕ, List, [], ◌∷◌, drop, Some, codes, refl, ap, sym, ◌∙◌, subst}
 use Rattle.std.specs.Fmt.{decimal}
 use Rattle.std.specs.List.{AllByRecursion}
 use Rattle.std.specs.Option.{option_map}
-use Rattle.std.specs.Str.{bytes_eq}
 use Rattle.std.proofs.lemmas.Option.{option_and_then_some}
-use Rattle.std.proofs.lemmas.Slice.Eq.{bytes_eq-Decides}
-use Rattle.px_base.specs.Hash.{hash_of, hash_text, IsHash}
-use Rattle.px_base.specs.StorageName.{IsStorageName}
-use Rattle.px_base.specs.declared.hash.Hash.{Hash}
 use Rattle.px_base.specs.declared.ids.TxId.{TxId}
 use Rattle.px_base.specs.declared.phase.Phase.{Phase}
 use Rattle.px_base.specs.declared.phase.Phase.TheVariants.{Prepared, Committed}
-use Rattle.px_base.proofs.HexText.{hash_of-hash_text, hash_of-some}
+use Rattle.px_base.proofs.HexText.{hash_of-hash_text}
 use Rattle.px_ops.specs.VoteTexts.{phase_word}
 use Rattle.px_ops.specs.declared.op.Op.{Op}
 use Rattle.px_ops.specs.declared.op.Op.TheVariants.{Open, Cast, Withdraw, Cancel, Stop, Close, Collect, Outcome}
-use Rattle.px_script.specs.VoteReading.{cast_of, collect_of, open_of, outcome_of, tx_of, vote_of, withdraw_of}
-use Rattle.px_script.specs.VoteSpelling.{IsLawfulVote, vote_words}
-use Rattle.px_script.specs.Words.{end_of, first_of, name_of, number_of, phase_of, small_of, voters_of}
-use Rattle.px_script.proofs.NameLemmas.{name_of-name, name_of-some, whole-hash, whole-name}
-use Rattle.px_script.proofs.NumberLemmas.{number_of-decimal, number_of-some, small_of-decimal, small_of-some, whole-decimal}
-use Rattle.px_script.proofs.VoterLemmas.{voters_of-some, voters_of-words, whole-voters}
-use Rattle.px_script.proofs.WordLemmas.{IsWhole, phase_of-some, phase_of-word, some_same, whole-text}
+use Rattle.px_script.specs.Reading.{tx_of}
+use Rattle.px_script.specs.VoteReading.{cast_of, collect_of, open_of, outcome_of, vote_of, withdraw_of}
+use Rattle.px_script.specs.VoteSpelling.{IsLawfulVote, IsLawfulVoter, vote_words, voter_word}
+use Rattle.px_script.specs.Words.{each_of, voter_of}
+use Rattle.px_script.proofs.EachLemmas.{each_of-some, each_of-words, whole-each}
+use Rattle.px_script.proofs.NameLemmas.{name_of-name, whole-hash}
+use Rattle.px_script.proofs.NumberLemmas.{number_of-decimal, small_of-decimal}
+use Rattle.px_script.proofs.StepLemmas.{end_step, hash_step, kind, made_line, name, name_step, number, number_step, only_tx, phase_step, small, small_step}
+use Rattle.px_script.proofs.VoterLemmas.{voter_of-some, voter_of-voter_word, whole-voter}
+use Rattle.px_script.proofs.WordLemmas.{IsWhole, phase_of-word, some_same, whole-text}
 
--- no byte of a number is a space
-number : (n : ℕ) → n < 2 ^ 64 → IsWhole 32 (decimal n)
-number n fits = whole-decimal 32 n (inl (omega arith)) fits
-
--- nor of a name
-name : (text : List ℕ) → IsStorageName text → IsWhole 32 text
-name text h = whole-name 32 refl text h
-
--- nor of a phase
+-- no byte of a phase is a space
 phase_whole : (phase : Phase) → IsWhole 32 (phase_word phase)
 phase_whole Prepared = whole-text 32 (codes "prepared") refl
 phase_whole Committed = whole-text 32 (codes "committed") refl
 
 -- no word of a lawful operation has a space
 pub vote_words-whole : (op : Op) → IsLawfulVote op → AllByRecursion (IsWhole 32) (vote_words op)
-vote_words-whole (Open threshold rounds voters) h = (whole-text 32 (codes "open") refl, (number threshold h.0, (number rounds (omega (arith, h.1)), whole-voters voters h.2)))
+vote_words-whole (Open threshold rounds voters) h = (whole-text 32 (codes "open") refl, (number threshold h.0, (small rounds h.1, whole-each voter_of IsLawfulVoter voter_word whole-voter voters h.2)))
 vote_words-whole (Cast tx voter phase hash) h = (whole-text 32 (codes "cast") refl, (number tx.0 h.0, (name voter h.1, (phase_whole phase, (whole-hash 32 refl hash h.2, tt)))))
 vote_words-whole (Withdraw tx voter) h = (whole-text 32 (codes "withdraw") refl, (number tx.0 h.0, (name voter h.1, tt)))
 vote_words-whole (Cancel tx) h = (whole-text 32 (codes "cancel") refl, (number tx.0 h, tt))
 vote_words-whole (Stop tx) h = (whole-text 32 (codes "stop") refl, (number tx.0 h, tt))
 vote_words-whole (Close tx) h = (whole-text 32 (codes "close") refl, (number tx.0 h, tt))
-vote_words-whole (Collect tx voter sub) h = (whole-text 32 (codes "collect") refl, (number tx.0 h.0, (name voter h.1, (number sub (omega (arith, h.2)), tt))))
-vote_words-whole (Outcome tx sub) h = (whole-text 32 (codes "outcome") refl, (number tx.0 h.0, (number sub (omega (arith, h.1)), tt)))
+vote_words-whole (Collect tx voter sub) h = (whole-text 32 (codes "collect") refl, (number tx.0 h.0, (name voter h.1, (small sub h.2, tt))))
+vote_words-whole (Outcome tx sub) h = (whole-text 32 (codes "outcome") refl, (number tx.0 h.0, (small sub h.1, tt)))
 vote_words-whole other h = absurd h
 
 -- a lawful operation is read back from them: the first, and those behind it
 pub vote_of-vote_words : (op : Op) → IsLawfulVote op → (first : List ℕ) × (words : List (List ℕ)) × (vote_words op ≡ first ∷ words) × (vote_of first words ≡ Some op)
-vote_of-vote_words (Open threshold rounds voters) h = (_, _, refl, rw (number_of-decimal threshold h.0, small_of-decimal rounds h.1, voters_of-words voters h.2) refl)
+vote_of-vote_words (Open threshold rounds voters) h = (_, _, refl, rw (number_of-decimal threshold h.0, small_of-decimal rounds h.1, each_of-words voter_of IsLawfulVoter voter_word voter_of-voter_word voters h.2) refl)
 vote_of-vote_words (Cast tx voter phase hash) h = (_, _, refl, rw (number_of-decimal tx.0 h.0, name_of-name voter h.1, phase_of-word phase, hash_of-hash_text hash h.2) refl)
 vote_of-vote_words (Withdraw tx voter) h = (_, _, refl, rw (number_of-decimal tx.0 h.0, name_of-name voter h.1) refl)
 vote_of-vote_words (Cancel tx) h = (_, _, refl, rw (number_of-decimal tx.0 h) refl)
@@ -60,50 +50,6 @@ vote_of-vote_words (Close tx) h = (_, _, refl, rw (number_of-decimal tx.0 h) ref
 vote_of-vote_words (Collect tx voter sub) h = (_, _, refl, rw (number_of-decimal tx.0 h.0, name_of-name voter h.1, small_of-decimal sub h.2) refl)
 vote_of-vote_words (Outcome tx sub) h = (_, _, refl, rw (number_of-decimal tx.0 h.0, small_of-decimal sub h.1) refl)
 vote_of-vote_words other h = absurd h
-
--- what a step takes off the front of the words, and what goes on
-abbrev Taken : {A B : Type 0} → (A → Type 0) → (A → List ℕ) → List (List ℕ) → (A → Option B) → B → Type 0
-Taken {A} lawful spelled words rest event = (a : A) × lawful a × (words ≡ spelled a ∷ drop 1 words) × (rest a ≡ Some event)
-
--- a step of the reader, where each word that it reads is the spelling of something lawful
-step : {A B : Type 0} (read : List ℕ → Option A) (lawful : A → Type 0) (spelled : A → List ℕ)
-    → ((word : List ℕ) (a : A) → read word ≡ Some a → lawful a × (spelled a ≡ word))
-    → (words : List (List ℕ)) (rest : A → Option B) (event : B) → option_and_then rest (first_of read words) ≡ Some event
-    → Taken lawful spelled words rest event
-step read lawful spelled sound [] rest event is = cc
-step read lawful spelled sound (word ∷ words) rest event is =
-    option_and_then_some rest (read word) event is (λ a got more.
-    let known = sound word a got in (a, known.0, ap (λ (w : List ℕ). w ∷ words) (sym known.1), more))
-
--- the first word is a number
-number_step : {B : Type 0} (words : List (List ℕ)) (rest : ℕ → Option B) (event : B) → option_and_then rest (first_of number_of words) ≡ Some event
-    → Taken (λ n. n < 2 ^ 64) decimal words rest event
-number_step = step number_of (λ n. n < 2 ^ 64) decimal number_of-some
-
--- a small number
-small_step : {B : Type 0} (words : List (List ℕ)) (rest : ℕ → Option B) (event : B) → option_and_then rest (first_of small_of words) ≡ Some event
-    → Taken (λ n. n < 2 ^ 32) decimal words rest event
-small_step = step small_of (λ n. n < 2 ^ 32) decimal small_of-some
-
--- a name
-name_step : {B : Type 0} (words : List (List ℕ)) (rest : List ℕ → Option B) (event : B) → option_and_then rest (first_of name_of words) ≡ Some event
-    → Taken IsStorageName (λ name. name) words rest event
-name_step = step name_of IsStorageName (λ name. name) name_of-some
-
--- a hash
-hash_step : {B : Type 0} (words : List (List ℕ)) (rest : Hash → Option B) (event : B) → option_and_then rest (first_of hash_of words) ≡ Some event
-    → Taken IsHash hash_text words rest event
-hash_step = step hash_of IsHash hash_text hash_of-some
-
--- a phase
-phase_step : {B : Type 0} (words : List (List ℕ)) (rest : Phase → Option B) (event : B) → option_and_then rest (first_of phase_of words) ≡ Some event
-    → Taken (λ phase. Unit {0}) phase_word words rest event
-phase_step = step phase_of (λ phase. Unit {0}) phase_word (λ word phase is. (tt, phase_of-some word phase is))
-
--- and that is all
-end_step : {B : Type 0} (words : List (List ℕ)) (made event : B) → option_and_then (λ u. Some made) (end_of words) ≡ Some event → (words ≡ []) × (made ≡ event)
-end_step [] made event is = (refl, cc)
-end_step (word ∷ words) made event is = cc
 
 -- a lawful operation, and its words
 abbrev pub IsSpelled : List (List ℕ) → Op → Type 0
@@ -120,8 +66,8 @@ open_of-some words op is =
     let second = drop 1 words in
     let rounds = small_step second _ op threshold.3 in
     let third = drop 1 second in
-    option_and_then_some (λ voters. Some (Open threshold.0 rounds.0 voters)) (voters_of third) op rounds.3 (λ voters read made.
-    let list = voters_of-some third voters read in
+    option_and_then_some (λ voters. Some (Open threshold.0 rounds.0 voters)) (each_of voter_of third) op rounds.3 (λ voters read made.
+    let list = each_of-some voter_of IsLawfulVoter voter_word voter_of-some third voters read in
     spelled (codes "open" ∷ words) (Open threshold.0 rounds.0 voters) op (some_same made) (threshold.1, rounds.1, list.0) (cc (threshold.2, rounds.2, list.1)))
 
 -- what is read as a vote is its words
@@ -153,16 +99,8 @@ withdraw_of-some words op is =
 -- what is read as a word and a transaction is those
 tx_line : (text : List ℕ) (make : TxId → Op) → ((tx : TxId) → tx.0 < 2 ^ 64 → IsLawfulVote (make tx)) → ((tx : TxId) → vote_words (make tx) ≡ text ∷ decimal tx.0 ∷ [])
     → (words : List (List ℕ)) (op : Op) → option_map make (tx_of words) ≡ Some op → IsSpelled (text ∷ words) op
-tx_line text make lawful written words op is = by (tx_of words) refl is
-  where
-    by : (read : Option TxId) → tx_of words ≡ read → option_map make read ≡ Some op → IsSpelled (text ∷ words) op
-    by None none is = cc
-    by (Some made) some is =
-        let tx = number_step words _ made some in
-        let last = end_step (drop 1 words) _ made tx.3 in
-        let named : TxId = record { 0 = tx.0 } in
-        spelled (text ∷ words) (make named) op (ap make last.1 ∙ some_same is) (lawful named tx.1)
-        (written named ∙ ap (λ (ws : List (List ℕ)). text ∷ ws) (cc (tx.2, last.0)))
+tx_line text make lawful written = made_line IsSpelled text make tx_of (λ words tx is.
+    let known = only_tx words tx is in (lawful tx known.0, written tx ∙ ap (λ (ws : List (List ℕ)). text ∷ ws) (sym known.1)))
 
 -- what is read as a question for a voter's result is its words
 collect_of-some : (words : List (List ℕ)) (op : Op) → collect_of words ≡ Some op → IsSpelled (codes "collect" ∷ words) op
@@ -188,25 +126,15 @@ outcome_of-some words op is =
     let last = end_step third made op sub.3 in
     spelled (codes "outcome" ∷ words) made op last.1 (tx.1, sub.1) (cc (tx.2, sub.2, last.0))
 
--- one kind, or another
-kind : (text : List ℕ) (read : List (List ℕ) → Option Op) → ((words : List (List ℕ)) (op : Op) → read words ≡ Some op → IsSpelled (text ∷ words) op)
-    → (first : List ℕ) (words : List (List ℕ)) (op : Op) (others : Option Op) → (others ≡ Some op → IsSpelled (first ∷ words) op)
-    → (cond (bytes_eq first text) (read words) others) ≡ Some op → IsSpelled (first ∷ words) op
-kind text read sound first words op others else is = by (bytes_eq first text) refl is
-  where
-    by : (t : Bool) → bytes_eq first text ≡ t → (cond t (read words) others) ≡ Some op → IsSpelled (first ∷ words) op
-    by true same is = subst (λ (f : List ℕ). IsSpelled (f ∷ words) op) (sym ((bytes_eq-Decides first text).0 same)) (sound words op is)
-    by false differ is = else is
-
 -- what is read as a line on votes is its words
 pub vote_of-some : (first : List ℕ) (words : List (List ℕ)) (op : Op) → vote_of first words ≡ Some op → IsSpelled (first ∷ words) op
 vote_of-some first words op is =
-    kind (codes "open") open_of open_of-some first words op _
-    (kind (codes "cast") cast_of cast_of-some first words op _
-    (kind (codes "withdraw") withdraw_of withdraw_of-some first words op _
-    (kind (codes "cancel") (λ ws. option_map Cancel (tx_of ws)) (tx_line (codes "cancel") Cancel (λ tx fits. fits) (λ tx. refl)) first words op _
-    (kind (codes "stop") (λ ws. option_map Stop (tx_of ws)) (tx_line (codes "stop") Stop (λ tx fits. fits) (λ tx. refl)) first words op _
-    (kind (codes "close") (λ ws. option_map Close (tx_of ws)) (tx_line (codes "close") Close (λ tx fits. fits) (λ tx. refl)) first words op _
-    (kind (codes "collect") collect_of collect_of-some first words op _
-    (kind (codes "outcome") outcome_of outcome_of-some first words op _
+    kind IsSpelled (codes "open") open_of open_of-some first words op _
+    (kind IsSpelled (codes "cast") cast_of cast_of-some first words op _
+    (kind IsSpelled (codes "withdraw") withdraw_of withdraw_of-some first words op _
+    (kind IsSpelled (codes "cancel") (λ ws. option_map Cancel (tx_of ws)) (tx_line (codes "cancel") Cancel (λ tx fits. fits) (λ tx. refl)) first words op _
+    (kind IsSpelled (codes "stop") (λ ws. option_map Stop (tx_of ws)) (tx_line (codes "stop") Stop (λ tx fits. fits) (λ tx. refl)) first words op _
+    (kind IsSpelled (codes "close") (λ ws. option_map Close (tx_of ws)) (tx_line (codes "close") Close (λ tx fits. fits) (λ tx. refl)) first words op _
+    (kind IsSpelled (codes "collect") collect_of collect_of-some first words op _
+    (kind IsSpelled (codes "outcome") outcome_of outcome_of-some first words op _
     (λ none. cc)))))))) is

@@ -1,5 +1,5 @@
 -- The words of a line: cut at its spaces, and joined by spaces.
-use Rattle.std.proofs.Common.{◌≡◌, ◌++◌, ◌==◌, ℕ, List, [], ◌∷◌, Bool, true, false, not, cond, Option, Some, None, arith, codes, refl, ap, sym, ◌∙◌}
+use Rattle.std.proofs.Common.{◌≡◌, ◌++◌, ◌==◌, ℕ, List, [], ◌∷◌, Bool, true, false, not, cond, Option, Some, None, arith, codes, refl, ap, sym, subst, ◌∙◌}
 use Rattle.std.specs.List.{after_first, AllByRecursion, join_with_byte, list_all, onto_first, slice_split}
 use Rattle.std.specs.Str.{bytes_eq}
 use Rattle.std.proofs.lemmas.Bool.{and_parts, eq-eqb, eqb-true, false_from_ne_true}
@@ -9,7 +9,8 @@ use Rattle.std.proofs.lemmas.Slice.Eq.{bytes_eq-Decides}
 use Rattle.px_base.specs.declared.phase.Phase.{Phase}
 use Rattle.px_base.specs.declared.phase.Phase.TheVariants.{Prepared, Committed}
 use Rattle.px_ops.specs.VoteTexts.{phase_word}
-use Rattle.px_script.specs.Words.{end_of, line_words, phase_of, words_left, HasNo, IsCutAt}
+use Rattle.px_script.specs.ClusterSpelling.{health_word}
+use Rattle.px_script.specs.Words.{end_of, health_of, line_words, phase_of, words_left, HasNo, IsCutAt}
 
 -- what two present values hold is one, where the two are
 pub some_same : {A : Type 0} {x y : A} → Some x ≡ Some y → x ≡ y
@@ -64,6 +65,10 @@ pub each-append : {A : Type 0} (P : A → Type 0) (items more : List A) → AllB
 each-append P [] more each rest = rest
 each-append P (a ∷ items) more each rest = (each.0, each-append P items more each.1 rest)
 
+-- words that have no mark have none under another name
+pub same_words : (mark : ℕ) (words others : List (List ℕ)) → words ≡ others → AllByRecursion (IsWhole mark) others → AllByRecursion (IsWhole mark) words
+same_words mark words others same whole = subst (λ (ws : List (List ℕ)). AllByRecursion (IsWhole mark) ws) (sym same) whole
+
 -- where each byte passes a test and the mark does not, no byte is the mark
 pub whole-passes : (test : ℕ → Bool) (mark : ℕ) → test mark ≡ false → (word : List ℕ) → list_all test word ≡ true → IsWhole mark word
 whole-passes test mark fails [] all = tt
@@ -113,3 +118,20 @@ phase_of-some word phase is = by (bytes_eq word (codes "prepared")) (bytes_eq wo
     by false true Prepared same other is = absurd (cc)
     by false true Committed same other is = sym ((bytes_eq-Decides word (codes "committed")).0 other)
     by false false phase same other is = absurd (cc)
+
+-- whether a storage can be reached is read back from its word
+pub health_of-word : (up : Bool) → health_of (health_word up) ≡ Some up
+health_of-word true = refl
+health_of-word false = refl
+
+-- a word that is taken so is the word for it
+pub health_of-some : (word : List ℕ) (up : Bool) → health_of word ≡ Some up → health_word up ≡ word
+health_of-some word up is = by (bytes_eq word (codes "up")) (bytes_eq word (codes "down")) up refl refl is
+  where
+    by : (u d up : Bool) → bytes_eq word (codes "up") ≡ u → bytes_eq word (codes "down") ≡ d
+        → (let o : Option Bool = cond u (Some true) (cond d (Some false) None) in o) ≡ Some up → health_word up ≡ word
+    by true d true same other is = sym ((bytes_eq-Decides word (codes "up")).0 same)
+    by true d false same other is = absurd (cc)
+    by false true true same other is = absurd (cc)
+    by false true false same other is = sym ((bytes_eq-Decides word (codes "down")).0 other)
+    by false false up same other is = absurd (cc)

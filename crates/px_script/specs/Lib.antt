@@ -1,4 +1,10 @@
+pub mod ClusterReading
+pub mod ClusterSpelling
 pub mod LineReading
+pub mod Names
+pub mod PushReading
+pub mod PushSpelling
+pub mod PushWords
 pub mod Reading
 pub mod Spelling
 pub mod VoteReading

@@ -1,6 +1,8 @@
 -- How the reader goes from word to word. The rule of the lines stands in Spelling.
 use Rattle.std.specs.Prelude.{ℕ, List, drop, Option, Some, option_and_then}
-use Rattle.px_script.specs.Words.{end_of, first_of}
+use Rattle.px_base.specs.declared.ids.RepoId.{RepoId}
+use Rattle.px_base.specs.declared.ids.TxId.{TxId}
+use Rattle.px_script.specs.Words.{end_of, first_of, name_of, number_of, small_of}
 
 -- a reading of the first word, and one of the rest that knows what was read
 abbrev pub and_then : {A B : Type 0} → (List ℕ → Option A) → List (List ℕ)
@@ -10,3 +12,17 @@ and_then read words rest = option_and_then (λ a. rest a (drop 1 words)) (first_
 -- what was read, where no word is left
 abbrev pub at_end : {A : Type 0} → A → List (List ℕ) → Option A
 at_end a words = option_and_then (λ u. Some a) (end_of words)
+
+-- a transaction, and no more
+abbrev pub tx_of : List (List ℕ) → Option TxId
+tx_of words = and_then number_of words (λ tx words. at_end (record { 0 = tx }) words)
+
+-- a transaction and a storage, and no more
+abbrev pub tx_name_of : List (List ℕ) → Option (TxId × List ℕ)
+tx_name_of words =
+    and_then number_of words (λ tx words.
+    and_then name_of words (λ name words. at_end (record { 0 = tx }, name) words))
+
+-- a repository, and no more
+abbrev pub repo_of : List (List ℕ) → Option RepoId
+repo_of words = and_then small_of words (λ repo words. at_end (record { 0 = repo }) words)

@@ -3,18 +3,17 @@
 use Rattle.std.specs.Prelude.{ℕ, List, if◌then◌else◌, Option, Some, None, option_and_then, option_map, codes}
 use Rattle.std.specs.Str.{bytes_eq}
 use Rattle.px_base.specs.Hash.{hash_of}
-use Rattle.px_base.specs.declared.ids.TxId.{TxId}
 use Rattle.px_ops.specs.declared.op.Op.{Op}
 use Rattle.px_ops.specs.declared.op.Op.TheVariants.{Open, Cast, Withdraw, Cancel, Stop, Close, Collect, Outcome}
-use Rattle.px_script.specs.Reading.{and_then, at_end}
-use Rattle.px_script.specs.Words.{name_of, number_of, phase_of, small_of, voters_of}
+use Rattle.px_script.specs.Reading.{and_then, at_end, tx_of}
+use Rattle.px_script.specs.Words.{each_of, name_of, number_of, phase_of, small_of, voter_of}
 
 -- a threshold, a number of rounds, and the voters
 abbrev pub open_of : List (List ℕ) → Option Op
 open_of words =
     and_then number_of words (λ threshold words.
     and_then small_of words (λ rounds words.
-    option_and_then (λ voters. Some (Open threshold rounds voters)) (voters_of words)))
+    option_and_then (λ voters. Some (Open threshold rounds voters)) (each_of voter_of words)))
 
 -- a transaction, a voter, a phase and a hash
 abbrev pub cast_of : List (List ℕ) → Option Op
@@ -31,10 +30,6 @@ withdraw_of words =
     and_then number_of words (λ tx words.
     and_then name_of words (λ voter words.
     at_end (Withdraw (record { 0 = tx }) voter) words))
-
--- a transaction
-abbrev pub tx_of : List (List ℕ) → Option TxId
-tx_of words = and_then number_of words (λ tx words. at_end (record { 0 = tx }) words)
 
 -- a transaction, a voter and the number of a subtransaction
 abbrev pub collect_of : List (List ℕ) → Option Op

@@ -1,5 +1,5 @@
 -- How the operations on transactions and their votes are spelled.
-use Rattle.std.specs.Prelude.{◌<◌, ◌^◌, ℕ, List, [], ◌∷◌, ◌++◌, map, codes, decimal}
+use Rattle.std.specs.Prelude.{◌≡◌, ◌<◌, ◌^◌, ℕ, List, [], ◌∷◌, ◌++◌, map, codes, decimal}
 use Rattle.std.specs.List.{AllByRecursion}
 use Rattle.px_base.specs.Hash.{hash_text, IsHash}
 use Rattle.px_base.specs.StorageName.{IsStorageName}
@@ -7,6 +7,8 @@ use Rattle.px_base.specs.declared.voter.Voter.{Voter}
 use Rattle.px_ops.specs.VoteTexts.{phase_word}
 use Rattle.px_ops.specs.declared.op.Op.{Op}
 use Rattle.px_ops.specs.declared.op.Op.TheVariants.{Open, Cast, Withdraw, Cancel, Stop, Close, Collect, Outcome}
+use Rattle.px_script.specs.declared.event.Event.{Event}
+use Rattle.px_script.specs.declared.event.Event.TheVariants.{Operation}
 
 -- a voter as one word: its name, a colon, and its weight
 abbrev pub voter_word : Voter → List ℕ
@@ -46,3 +48,8 @@ IsLawfulVote (Close tx) = tx.0 < 2 ^ 64
 IsLawfulVote (Collect tx voter sub) = (tx.0 < 2 ^ 64) × IsStorageName voter × (sub < 2 ^ 32)
 IsLawfulVote (Outcome tx sub) = (tx.0 < 2 ^ 64) × (sub < 2 ^ 32)
 IsLawfulVote other = ⊥
+
+-- the words are a line on votes that asks for the event
+abbrev pub IsVoteLine : Event → List (List ℕ) → Type 0
+IsVoteLine (Operation op) words = IsLawfulVote op × (words ≡ vote_words op)
+IsVoteLine other words = ⊥

@@ -1,5 +1,5 @@
 -- What the reader computes of single words. The rule of the lines stands in Spelling.
-use Rattle.std.specs.Prelude.{◌≡◌, ℕ, ◌+◌, ◌-◌, ◌*◌, ◌^◌, ◌<◌, List, [], ◌∷◌, length, Bool, ◌&&◌, ◌==◌, nat_le, nat_lt, if◌then◌else◌, fold, Option, Some, None, option_and_then, codes}
+use Rattle.std.specs.Prelude.{◌≡◌, ℕ, ◌+◌, ◌-◌, ◌*◌, ◌^◌, ◌<◌, List, [], ◌∷◌, length, Bool, true, false, ◌&&◌, ◌==◌, nat_le, nat_lt, if◌then◌else◌, fold, Option, Some, None, option_and_then, codes}
 use Rattle.std.specs.List.{after_first, before_first, list_all, position_or_len, slice_split}
 use Rattle.std.specs.Str.{bytes_eq}
 use Rattle.px_base.specs.StorageName.{is_name_byte}
@@ -59,6 +59,39 @@ phase_of word =
     else if bytes_eq word (codes "committed") then Some Committed
     else None
 
+-- the same number, where it is not 2^64 - 1
+abbrev pub fitting : ℕ → Option ℕ
+fitting n = if nat_lt n (2 ^ 64 - 1) then Some n else None
+
+-- a lease: a number below 2^64 - 1
+abbrev pub lease_of : List ℕ → Option ℕ
+lease_of word = option_and_then fitting (number_of word)
+
+-- whether a storage can be reached
+abbrev pub health_of : List ℕ → Option Bool
+health_of word =
+    if bytes_eq word (codes "up") then Some true
+    else if bytes_eq word (codes "down") then Some false
+    else None
+
+-- what is read of what stands before the first colon and of what stands after it
+abbrev pub cut_of : {A : Type 0} → (List ℕ → List ℕ → Option A) → List ℕ → Option A
+cut_of read word =
+    if nat_lt (position_or_len (λ b. b == 58) word) (length word)
+    then read (before_first (λ b. b == 58) word) (after_first (λ b. b == 58) word)
+    else None
+
+-- one before others
+abbrev pub before_others : {A : Type 0} → Option A → Option (List A) → Option (List A)
+before_others None others = None
+before_others (Some a) None = None
+before_others (Some a) (Some others) = Some (a ∷ others)
+
+-- one a word
+abbrev pub each_of : {A : Type 0} → (List ℕ → Option A) → List (List ℕ) → Option (List A)
+each_of read [] = Some []
+each_of read (word ∷ words) = before_others (read word) (each_of read words)
+
 -- a voter of this name and this weight
 abbrev pub voter_from : Option (List ℕ) → Option ℕ → Option Voter
 voter_from None weight = None
@@ -67,22 +100,7 @@ voter_from (Some name) (Some weight) = Some (record { name = name; weight = weig
 
 -- a name, a colon and a weight
 abbrev pub voter_of : List ℕ → Option Voter
-voter_of word =
-    if nat_lt (position_or_len (λ b. b == 58) word) (length word)
-    then voter_from (name_of (before_first (λ b. b == 58) word))
-    (small_of (after_first (λ b. b == 58) word))
-    else None
-
--- a voter before others
-abbrev pub before_others : Option Voter → Option (List Voter) → Option (List Voter)
-before_others None voters = None
-before_others (Some voter) None = None
-before_others (Some voter) (Some voters) = Some (voter ∷ voters)
-
--- one voter a word
-abbrev pub voters_of : List (List ℕ) → Option (List Voter)
-voters_of [] = Some []
-voters_of (word ∷ words) = before_others (voter_of word) (voters_of words)
+voter_of word = cut_of (λ name weight. voter_from (name_of name) (small_of weight)) word
 
 -- what is read of the first word
 abbrev pub first_of : {A : Type 0} → (List ℕ → Option A) → List (List ℕ) → Option A

@@ -1,12 +1,16 @@
 //! The words that are left of a line.
 
-ghost use Rattle.std.specs.Prelude.{◌≡◌, ◌∷◌, [], IfNone, IfSome, bytes_eq, drop};
+ghost use Rattle.std.specs.Prelude.{◌≡◌, ◌∷◌, [], IfNone, IfOk, IfSome, bytes_eq, drop};
 ghost use Rattle.px_base.specs.Hash.{hash_of};
-ghost use Rattle.px_script.specs.Words.{end_of, first_of, line_words, name_of, number_of, phase_of, small_of};
+ghost use Rattle.px_script.specs.Names.{path_of, ref_of};
+ghost use Rattle.px_script.specs.Reading.{repo_of, tx_name_of, tx_of};
+ghost use Rattle.px_script.specs.Words.{end_of, first_of, health_of, lease_of, line_words, name_of};
+ghost use Rattle.px_script.specs.Words.{number_of, phase_of, small_of};
 
 use crate::cut::cut_at;
 use crate::number::{read_number, read_small};
-use px_base::{Hash, Phase, StorageName};
+use px_base::{Hash, Lease, NameFault, Phase, RefName, RepoId, RepoPath, StorageName, TxId};
+use std::alloc::{AllocError, Global};
 use std::marker::Model;
 
 /// A place in a line, with a word after it or none. There is one word more than there are spaces.
@@ -33,6 +37,16 @@ impl<'a> LineWords<'a> {
         LineWords {
             bytes: line,
             is_over: false,
+        }
+    }
+
+    /// The same words once more.
+    pub fn copy(&self) -> LineWords<'a>
+        ensures { result ≡ self.now }
+    {
+        LineWords {
+            bytes: self.bytes,
+            is_over: self.is_over,
         }
     }
 
@@ -96,6 +110,61 @@ impl<'a> LineWords<'a> {
         read_phase(self.next()?)
     }
 
+    /// The next word as a lease.
+    pub fn lease(&mut self) -> Option<Lease>
+        ensures value { result ≡ first_of lease_of self.old }
+        ensures rest { self.new ≡ drop 1 self.old }
+    {
+        Lease::new(read_number(self.next()?)?)
+    }
+
+    /// The next word as whether a storage can be reached.
+    pub fn health(&mut self) -> Option<bool>
+        ensures value { result ≡ first_of health_of self.old }
+        ensures rest { self.new ≡ drop 1 self.old }
+    {
+        read_health(self.next()?)
+    }
+
+    /// The next word as the path of a repository. An error is want of memory.
+    pub fn path(&mut self, alloc: Global) -> Result<Option<RepoPath>, AllocError>
+        ensures value { IfOk result (λ path. path ≡ first_of path_of self.old) }
+        ensures rest { self.new ≡ drop 1 self.old }
+    {
+        match self.next() {
+            Some(word) => read_path(alloc, word),
+            None => Ok(None),
+        }
+    }
+
+    /// All that is left, as a transaction.
+    pub fn only_tx(&mut self) -> Option<TxId>
+        ensures { result ≡ tx_of self.old }
+    {
+        let tx = TxId(self.number()?);
+        self.end()?;
+        Some(tx)
+    }
+
+    /// All that is left, as a transaction and the name of a storage.
+    pub fn only_tx_and_name(&mut self) -> Option<(TxId, StorageName)>
+        ensures { result ≡ tx_name_of self.old }
+    {
+        let tx = TxId(self.number()?);
+        let name = self.name()?;
+        self.end()?;
+        Some((tx, name))
+    }
+
+    /// All that is left, as a repository.
+    pub fn only_repo(&mut self) -> Option<RepoId>
+        ensures { result ≡ repo_of self.old }
+    {
+        let repo = RepoId(self.small()?);
+        self.end()?;
+        Some(repo)
+    }
+
     /// Whether no word is left.
     pub fn end(&self) -> Option<()>
         ensures { result ≡ end_of self.now }
@@ -121,6 +190,41 @@ fn read_phase(word: &[u8]) -> Option<Phase>
         Some(Phase::Committed)
     } else {
         None
+    }
+}
+
+// Whether a storage can be reached, by the word for it.
+fn read_health(word: &[u8]) -> Option<bool>
+    ensures { result ≡ health_of word.now }
+{
+    if is_text(word, b"up") {
+        Some(true)
+    } else if is_text(word, b"down") {
+        Some(false)
+    } else {
+        None
+    }
+}
+
+// The path of a repository. An error is want of memory.
+fn read_path(alloc: Global, word: &[u8]) -> Result<Option<RepoPath>, AllocError>
+    ensures { IfOk result (λ path. path ≡ path_of word.now) }
+{
+    match RepoPath::read(alloc, word) {
+        Ok(path) => Ok(Some(path)),
+        Err(NameFault::BadName { .. }) => Ok(None),
+        Err(NameFault::Memory) => Err(AllocError),
+    }
+}
+
+/// The name of a reference. An error is want of memory.
+pub fn read_ref(alloc: Global, word: &[u8]) -> Result<Option<RefName>, AllocError>
+    ensures { IfOk result (λ name. name ≡ ref_of word.now) }
+{
+    match RefName::read(alloc, word) {
+        Ok(name) => Ok(Some(name)),
+        Err(NameFault::BadName { .. }) => Ok(None),
+        Err(NameFault::Memory) => Err(AllocError),
     }
 }
 

@@ -11,6 +11,6 @@ pub enum ScriptLine {
     Asks(Event),
     /// It is neither silent nor the spelling of an event.
     Bad,
-    /// There was no room for its list of voters.
+    /// There was no room for its voters, its path, or what it pushes.
     Memory,
 }

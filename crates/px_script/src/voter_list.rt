@@ -1,7 +1,7 @@
 //! The list of voters at the end of a line.
 
 ghost use Rattle.std.specs.Prelude.{◌≡◌, IfOk};
-ghost use Rattle.px_script.specs.Words.{voter_of, voters_of};
+ghost use Rattle.px_script.specs.Words.{each_of, voter_of};
 
 use crate::cut::cut_at;
 use crate::line_words::{LineWords, read_name};
@@ -24,7 +24,7 @@ pub fn read_voters(
     alloc: Global,
     words: &mut LineWords<'_>,
 ) -> Result<Option<Items<Voter>>, AllocError>
-    ensures { IfOk result (λ voters. voters ≡ voters_of words.old) }
+    ensures { IfOk result (λ voters. voters ≡ each_of voter_of words.old) }
 {
     let mut voters = Items::new(alloc);
     while let Some(word) = words.next() {

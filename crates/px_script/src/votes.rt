@@ -1,7 +1,7 @@
 //! The lines on transactions and their votes.
 
-ghost use Rattle.std.specs.Prelude.{◌≡◌, true, IfOk, OnErr, bytes_eq, codes};
-ghost use Rattle.px_script.specs.VoteReading.{cast_of, collect_of, open_of, outcome_of, tx_of};
+ghost use Rattle.std.specs.Prelude.{◌≡◌, IfOk, OnErr, codes};
+ghost use Rattle.px_script.specs.VoteReading.{cast_of, collect_of, open_of, outcome_of};
 ghost use Rattle.px_script.specs.VoteReading.{vote_of, withdraw_of};
 
 use crate::line_words::{LineWords, is_text};
@@ -78,15 +78,6 @@ fn outcome(words: &mut LineWords<'_>) -> Option<Op>
     Some(Op::Outcome { tx, sub })
 }
 
-// `TX`: what follows the words `cancel`, `stop` and `close`.
-fn only_tx(words: &mut LineWords<'_>) -> Option<TxId>
-    ensures { result ≡ tx_of words.old }
-{
-    let tx = TxId(words.number()?);
-    words.end()?;
-    Some(tx)
-}
-
 /// The operation of a line on votes, by its first word and those behind it. `None` where the line is
 /// none of these. Takes memory for the voters of `open` alone.
 pub fn read_vote(
@@ -95,7 +86,7 @@ pub fn read_vote(
     words: &mut LineWords<'_>,
 ) -> Result<Option<Op>, AllocError>
     ensures op { IfOk result (λ op. op ≡ vote_of first.now words.old) }
-    ensures memory { OnErr result (bytes_eq first.now (codes "open") ≡ true) }
+    ensures memory { OnErr result (first.now ≡ codes "open") }
 {
     if is_text(first, b"open") {
         return open(alloc, words);
@@ -107,13 +98,13 @@ pub fn read_vote(
         return Ok(withdraw(words));
     }
     if is_text(first, b"cancel") {
-        return Ok(only_tx(words).map(|tx| Op::Cancel { tx }));
+        return Ok(words.only_tx().map(|tx| Op::Cancel { tx }));
     }
     if is_text(first, b"stop") {
-        return Ok(only_tx(words).map(|tx| Op::Stop { tx }));
+        return Ok(words.only_tx().map(|tx| Op::Stop { tx }));
     }
     if is_text(first, b"close") {
-        return Ok(only_tx(words).map(|tx| Op::Close { tx }));
+        return Ok(words.only_tx().map(|tx| Op::Close { tx }));
     }
     if is_text(first, b"collect") {
         return Ok(collect(words));

@@ -64,7 +64,7 @@ reply_of state (Operation (Collect tx voter sub)) =
     result_told sub (answer_at (transaction_at state.transactions tx) tx (on.collect_answer voter sub))
 reply_of state (Operation (Outcome tx sub)) =
     outcome_told (answer_at (transaction_at state.transactions tx) tx (on.outcome_answer sub))
-reply_of state (Operation other) = Refused NotOut
+reply_of state other = Refused NotOut
 
 -- the state with what becomes of the transaction of a number, where there is one
 abbrev pub with_tx : State → TxId → (on.Voting → on.Voting) → State
@@ -88,7 +88,7 @@ next_state state (Operation (Close tx)) = record {
 }
 next_state state (Operation (Collect tx voter sub)) = state
 next_state state (Operation (Outcome tx sub)) = state
-next_state state (Operation other) = state
+next_state state other = state
 
 -- an event is answered so, and leads there
 pub record Does (state : State) (event : Event) (reply : Reply) (then_ : State) : Type 0 where

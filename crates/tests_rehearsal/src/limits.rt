@@ -25,7 +25,7 @@ const BAD: &str = "\
     rounds above their range: open 1 4294967296 a:1
     another state of the hook: cast 1 a aborted 1111111111111111111111111111111111111111
     a word too many: stop 1 1
-    another word: finish 1
+    another word: renew 1
     a blank: \x20
     bytes above ASCII: open 1 1 \u{e9}:1";
 

@@ -1,7 +1,7 @@
 -- What the words of a line give is what the line asks.
 use Rattle.std.proofs.Common.{sym, ◌∙◌}
 use Rattle.std.proofs.lemmas.Bool.{iff_false}
-use Rattle.px_script.proofs.LineLemmas.{opening_lists, read_is_spelled, unasked}
+use Rattle.px_script.proofs.LineLemmas.{line_takes, read_is_spelled, unasked}
 use Rattle.px_script.proofs.reader.read_line.Goals as goal
 
 -- an event that is read is spelled
@@ -15,6 +15,6 @@ returns-in-Ok-None c = λ asked asks.
     unasked asked c.args.line.now (iff_false c.is_silent.ensures c.if-is_silent.false)
     (sym c.in-Ok-None.ensures.event ∙ c.in-Ok-None.field-0-is) asks
 
--- only an opening takes memory
+-- only these words take memory
 pub returns-in-Err : goal.returns-in-Err
-returns-in-Err c = opening_lists c.args.line.now c.in-Err.ensures.memory
+returns-in-Err c = line_takes c.args.line.now c.in-Err.ensures.memory

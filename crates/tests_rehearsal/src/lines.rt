@@ -1,0 +1,223 @@
+//! Lines on storages, repositories and pushes, and what each asks.
+
+use px_base::{Hash, Object, Push, StorageName, Update};
+use px_ops::Op;
+use px_script::{Event, ScriptLine, read_line};
+use std::alloc::Global;
+use std::test::Fail;
+use tests_tables::play;
+
+fn text(bytes: &[u8]) -> &str {
+    str::from_utf8(bytes).unwrap_or("?")
+}
+
+fn named(name: &StorageName) -> &str {
+    text(name.as_bytes())
+}
+
+// What was shown so far, and an update.
+fn with_update(alloc: Global, shown: &str, update: &Update) -> Result<String, Fail> {
+    let (old, new) = (update.old.text(), update.new.text());
+    let at = text(update.name.as_bytes());
+    Ok(format!(in alloc; "{shown}, {} > {} at {at}", text(&old), text(&new))?)
+}
+
+// The same, and an object.
+fn with_object(alloc: Global, shown: &str, object: &Object) -> Result<String, Fail> {
+    Ok(format!(in alloc; "{shown}, {:?} {:?}", object.kind(), object.content())?)
+}
+
+fn pushed(alloc: Global, start: String, push: &Push) -> Result<String, Fail> {
+    let mut shown = start;
+    for update in push.updates.as_slice() {
+        shown = with_update(alloc, shown.as_str(), update)?;
+    }
+    for object in push.objects.as_slice() {
+        shown = with_object(alloc, shown.as_str(), object)?;
+    }
+    Ok(shown)
+}
+
+fn operation(alloc: Global, op: &Op) -> Result<String, Fail> {
+    Ok(match op {
+        Op::Admit { virt, name } => {
+            format!(in alloc; "admits {} of {}", named(name), named(virt))?
+        }
+        Op::Create { virt, path, factor } => {
+            let path = text(path.as_bytes());
+            format!(in alloc; "creates {path} of {} on {factor}", named(virt))?
+        }
+        Op::Begin { repo } => format!(in alloc; "begins a push to {}", repo.0)?,
+        Op::Finish { tx } => format!(in alloc; "finishes {}", tx.0)?,
+        Op::Booked { repo } => format!(in alloc; "what is booked of {}", repo.0)?,
+        Op::Holder { repo } => format!(in alloc; "who has {}", repo.0)?,
+        _ => format!(in alloc; "another operation")?,
+    })
+}
+
+fn asked(alloc: Global, event: &Event) -> Result<String, Fail> {
+    Ok(match event {
+        Event::Operation(op) => operation(alloc, op)?,
+        Event::Health { name, up } => format!(in alloc; "{} is up is {up}", named(name))?,
+        Event::Make { name, repo, lease } => {
+            format!(in alloc; "{} makes {} by {}", named(name), repo.0, lease.number())?
+        }
+        Event::Enrol { repo, name, lease } => {
+            format!(in alloc; "{} made {} by {}", named(name), repo.0, lease.number())?
+        }
+        Event::Prepare { tx, name, push } => {
+            let start = format!(in alloc; "{} prepares {}", named(name), tx.0)?;
+            pushed(alloc, start, push)?
+        }
+        Event::Commit { tx, name } => format!(in alloc; "{} commits {}", named(name), tx.0)?,
+        Event::Abort { tx, name } => format!(in alloc; "{} aborts {}", named(name), tx.0)?,
+        Event::Refs { name, repo } => {
+            format!(in alloc; "references of {} at {}", repo.0, named(name))?
+        }
+    })
+}
+
+// What a line asks. Each call has the line behind a word.
+fn answer(alloc: Global, _: &mut (), _: &str, line: &str) -> Result<String, Fail> {
+    match read_line(alloc, line.as_bytes()) {
+        ScriptLine::Asks(event) => asked(alloc, &event),
+        ScriptLine::Nothing => Ok(format!(in alloc; "nothing")?),
+        ScriptLine::Bad => Ok(format!(in alloc; "bad")?),
+        ScriptLine::Memory => Ok(format!(in alloc; "no memory")?),
+    }
+}
+
+// The event of each kind, but that of a push.
+const GOOD: &str = "\
+    line storage v a-1.b_2 -> admits a-1.b_2 of v
+    line health a up -> a is up is true
+    line health a down -> a is up is false
+    line create v @hashed/0a/x.git 4294967295 -> creates @hashed/0a/x.git of v on 4294967295
+    line make a 0 18446744073709551614 -> a makes 0 by 18446744073709551614
+    line enrol 4294967295 a 7 -> a made 4294967295 by 7
+    line refs a 2 -> references of 2 at a
+    line booked 0 -> what is booked of 0
+    line holder 10 -> who has 10
+    line begin 4294967295 -> begins a push to 4294967295
+    line commit 18446744073709551615 a -> a commits 18446744073709551615
+    line abort 1 b -> b aborts 1
+    line finish 0 -> finishes 0";
+
+#[test]
+fn lines_on_storages_and_repositories_ask_for_their_events(rt: HostRuntime) -> Result<(), Fail> {
+    play(rt.alloc(), &mut (), answer, GOOD)
+}
+
+// The greatest number of an object's name is 40 times f. The bytes of `Hi` are 72 and 105.
+const PUSHES: &str = "\
+    line prepare 1 a -> a prepares 1
+    line prepare 1 a with -> a prepares 1
+    line prepare 2 a \
+    0000000000000000000000000000000000000000:\
+    ffffffffffffffffffffffffffffffffffffffff:refs/heads/main \
+    -> a prepares 2, \
+    0000000000000000000000000000000000000000 > \
+    ffffffffffffffffffffffffffffffffffffffff at refs/heads/main
+    line prepare 3 b \
+    1111111111111111111111111111111111111111:\
+    2222222222222222222222222222222222222222:refs/heads/a \
+    1111111111111111111111111111111111111111:\
+    1111111111111111111111111111111111111111:refs/heads/a \
+    with blob: tree:4869 commit:00ff tag:0a blob:0a \
+    -> b prepares 3, \
+    1111111111111111111111111111111111111111 > \
+    2222222222222222222222222222222222222222 at refs/heads/a, \
+    1111111111111111111111111111111111111111 > \
+    1111111111111111111111111111111111111111 at refs/heads/a, \
+    Blob [], Tree [72, 105], Commit [0, 255], Tag [10], Blob [10]";
+
+#[test]
+fn a_push_is_read_with_its_updates_and_its_objects(rt: HostRuntime) -> Result<(), Fail> {
+    play(rt.alloc(), &mut (), answer, PUSHES)
+}
+
+// A line each, behind what is bad about it.
+const BAD: &str = "\
+    a word too few: storage v
+    a word too many: storage v a b
+    two spaces: storage v  a
+    a slash in a name: storage v a/b
+    another state: health a UP
+    no state: health a
+    a path with a slash in front: create v /x 1
+    a path that goes up: create v x/../y 1
+    an empty path: create v  1
+    a factor above its range: create v x 4294967296
+    a sign: create v x +1
+    no factor: create v x
+    a lease above its range: make a 0 18446744073709551615
+    a repository above its range: make a 4294967296 1
+    no lease: make a 0
+    words in another order: enrol a 0 1
+    the same lease: enrol 0 a 18446744073709551615
+    a leading zero: refs a 01
+    a name too long: refs nnnnnnnnnnnnnnnnnnnnnnnnnnnnnnnnnnnnnnnnnnnnnnnnnnnnnnnnnnnnnnnnn 0
+    another repository above its range: booked 4294967296
+    a repository too many: holder 1 1
+    no repository: begin
+    an empty word: begin\x20
+    a transaction above its range: commit 18446744073709551616 a
+    no storage: abort 1
+    a storage too many: finish 1 a
+    another case: Finish 1
+    a transaction that is no number: prepare x a
+    no storage to prepare: prepare 1
+    a space at the end: prepare 1 a with\x20
+    two spaces before a word: prepare 1 a  with
+    an object before the word: prepare 1 a blob:00
+    an upper-case object: prepare 1 a \
+        0000000000000000000000000000000000000000:\
+        AAAAAAAAAAAAAAAAAAAAAAAAAAAAAAAAAAAAAAAA:refs/heads/a
+    a digit too few: prepare 1 a \
+        000000000000000000000000000000000000000:\
+        1111111111111111111111111111111111111111:refs/heads/a
+    an odd digit: prepare 1 a with blob:0
+    an upper-case digit: prepare 1 a with blob:0A
+    another kind: prepare 1 a with file:00
+    no kind: prepare 1 a with :00
+    no colon: prepare 1 a with blob
+    the word twice: prepare 1 a with with
+    the word once more: prepare 1 a with blob: with
+    the word in another case: prepare 1 a With";
+
+// The same, of updates: each has the zero name and another one in front of what is told here.
+const BAD_UPDATES: &str = "\
+    no reference:
+    an empty reference: :
+    a reference outside of refs: :heads/a
+    two dots: :refs/heads/a..b
+    a colon in the reference: :refs/heads/a:b
+    a lock: :refs/heads/a.lock
+    a slash at the end: :refs/heads/
+    a digit too many: 1:refs/heads/a";
+
+fn is_bad(alloc: Global, line: &str) -> bool {
+    matches!(read_line(alloc, line.as_bytes()), ScriptLine::Bad)
+}
+
+#[test]
+fn a_line_in_another_form_is_bad(rt: HostRuntime) -> Result<(), Fail> {
+    for row in BAD.split("\n") {
+        let (_, line) = row.split_once(": ").unwrap_or((row, ""));
+        assert!(rt; is_bad(rt.alloc(), line), "{row}");
+    }
+    Ok(())
+}
+
+#[test]
+fn an_update_in_another_form_is_bad(rt: HostRuntime) -> Result<(), Fail> {
+    let alloc = rt.alloc();
+    let (zero, one) = (Hash::zero().text(), Hash([17; 20]).text());
+    for row in BAD_UPDATES.split("\n") {
+        let (_, rest) = row.split_once(":").unwrap_or((row, ""));
+        let rest = rest.strip_prefix(" ").unwrap_or(rest);
+        let line = format!(in alloc; "prepare 1 a {}:{}{rest}", text(&zero), text(&one))?;
+        assert!(rt; is_bad(alloc, line.as_str()), "{row}");
+    }
+    Ok(())
+}

@@ -1,0 +1,13 @@
+mod MemberNames
+mod MemberPanels
+mod Kept
+mod Calls
+mod Told
+mod Tables
+mod Parts
+mod ByNumbers
+mod BookOps
+mod OpenPushes
+mod Planning
+mod Begins
+mod Counts

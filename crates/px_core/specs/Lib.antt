@@ -1,0 +1,10 @@
+pub mod Answers
+pub mod Beginning
+pub mod Counting
+pub mod Faults
+pub mod Few
+pub mod Known
+pub mod Parts
+pub mod Served
+pub mod Sound
+pub mod Steps

@@ -1,0 +1,23 @@
+-- The core by what stores it.
+use Rattle.std.specs.Prelude.{ℕ, Bool, List, map}
+use Rattle.txmanager.specs.Registry.{Registry}
+use Rattle.genbook.specs.Books.{Books}
+use Rattle.px_cluster.specs.Book.{Repository}
+use Rattle.px_cluster.specs.Core.{Core, OpenPush, empty}
+
+-- no read of a repository was routed yet
+abbrev pub no_reads : List Repository → List ℕ
+no_reads repositories = map (λ (repo : Repository). 0) repositories
+
+-- a book, which storages are up, the transactions, the last number that one was given, and the open
+-- pushes; there are no jobs, and no default factors
+abbrev pub core_with : Books → List Bool → Registry → ℕ → List OpenPush → Core
+core_with book up transactions last pushes = record empty {
+  storages = book.storages;
+  repositories = book.repositories;
+  last_tx = last;
+  transactions = transactions;
+  pushes = pushes;
+  health = up;
+  reads = no_reads book.repositories;
+}

@@ -1,0 +1,5 @@
+pub mod OneAnswer
+pub mod OneScript
+pub mod ScriptMoves
+pub mod Transactions
+pub mod LawfulLines

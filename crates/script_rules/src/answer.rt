@@ -1,0 +1,21 @@
+//! What is answered to an event of a script.
+
+use px_base::{Hash, RefList};
+use px_ops::Reply;
+
+/// What is answered to an event of a script.
+#[derive(Drop)]
+pub enum Answer {
+    /// The reply of the core to an operation, or the refusal of any event. Refused are, beside what an
+    /// operation is refused for: `UnknownStorage`, where no storage has the name of the line; `NotOut`,
+    /// where the line tells a node what was not issued to it, or names a repository that is not on
+    /// record; `Node`, where the node refuses it; and `NotAcked`, where an operation tells of a node
+    /// what it did not answer.
+    Replied(Reply),
+    /// A node did what it was told.
+    Done,
+    /// The vote of a node on a push.
+    Voted(Hash),
+    /// The references that a node has of a repository.
+    Refs(RefList),
+}

@@ -1,0 +1,50 @@
+//! The line that is printed of an answer.
+
+ghost use Rattle.std.specs.Prelude.{◌≡◌, ◌++◌, ◌∷◌, OnOk};
+ghost use Rattle.px_ops.specs.BookingTexts.{each_after_space};
+ghost use Rattle.script_rules.specs.Texts.{ref_text, text_of};
+
+use crate::Answer;
+use px_base::{Bytes, Hash, RefName};
+use px_ops::add_reply;
+use std::alloc::AllocError;
+
+// Adds references, each after a space.
+fn add_each_ref(text: &mut Bytes, refs: &[(RefName, Hash)]) -> Result<(), AllocError>
+    ensures { OnOk result (text.new ≡ text.old ++ each_after_space ref_text refs.now) }
+{
+    for reference in refs {
+        add_ref(text, &reference.0, &reference.1)?;
+    }
+    Ok(())
+}
+
+// Adds a reference and the object that it names, after a space.
+fn add_ref(text: &mut Bytes, name: &RefName, id: &Hash) -> Result<(), AllocError>
+    ensures { OnOk result (text.new ≡ text.old ++ 32 ∷ ref_text (name.now, id.now)) }
+{
+    text.push(b' ')?;
+    text.extend_from_slice(name.as_bytes())?;
+    text.push(b'=')?;
+    text.extend_from_slice(&id.text())
+}
+
+/// Adds the line that is printed of an answer, with its line feed. Where memory wants, a part of it may
+/// stand there.
+pub fn add_line(text: &mut Bytes, answer: &Answer) -> Result<(), AllocError>
+    ensures { OnOk result (text.new ≡ text.old ++ text_of answer.now) }
+{
+    match answer {
+        Answer::Replied(reply) => add_reply(text, reply)?,
+        Answer::Done => text.extend_from_slice(b"done")?,
+        Answer::Voted(hash) => {
+            text.extend_from_slice(b"vote ")?;
+            text.extend_from_slice(&hash.text())?;
+        }
+        Answer::Refs(refs) => {
+            text.extend_from_slice(b"refs")?;
+            add_each_ref(text, refs.as_slice())?;
+        }
+    }
+    text.push(b'\n')
+}

@@ -34,7 +34,7 @@ impl End {
     pub fn message(self) -> &'static [u8] {
         match self {
             End::Usage =>
-                b"plumbing: usage: plumbing objects | hook | vote | rows | hash N | WORD N TURNS, WORD being chain, wide, create, change, push or open\n",
+                b"plumbing: usage: plumbing objects | hook | vote | rows | hash N | WORD N TURNS, WORD being chain, wide, create, change, push, grow or open\n",
             End::ReadFault => b"plumbing: read fault\n",
             End::WriteFault => b"plumbing: write fault\n",
             End::BadInput => b"plumbing: bad input\n",

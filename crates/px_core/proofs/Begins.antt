@@ -1,5 +1,5 @@
 -- What a push that begins makes of the core.
-use Rattle.std.proofs.Common.{◌≡◌, ◌∙◌, ◌<◌, ◌+◌, ◌==◌, ◌++◌, ℕ, zero, suc, not, List, [], ◌∷◌, Bool, false, Option, None, Some, IfSome, refl, sym, subst, ap, inl, inr, filter, length, set, slice_get, arith}
+use Rattle.std.proofs.Common.{◌≡◌, ◌∙◌, ◌<◌, ◌+◌, ◌==◌, ◌++◌, ℕ, zero, suc, not, List, [], ◌∷◌, Bool, false, Option, None, Some, IfSome, refl, sym, subst, ap, inl, inr, filter, find, length, set, slice_get, arith}
 use Rattle.std.specs.List.{AllByRecursion}
 use Rattle.px_base.specs.declared.ids.StorageId.{StorageId}
 use Rattle.px_base.specs.declared.ids.TxId.{TxId}
@@ -15,14 +15,14 @@ use Rattle.px_cluster.specs.Book.{Repository, Storage}
 use Rattle.px_cluster.specs.Core.{Core, OpenPush, names_of, repository, turn_of, with_repository}
 use Rattle.px_cluster.specs.Ids.{gen, repo_id}
 use Rattle.px_cluster.specs.Members.{members, panel_of, targets}
-use Rattle.px_cluster.specs.Ops.{answer_of, next_core}
+use Rattle.px_cluster.specs.Ops.{answer_of, next_core, reply_of}
 use Rattle.px_cluster.specs.Pushes.{begin_refusal, beginning, drawn_for_members, next_tx, read_only, with_begun}
 use Rattle.cluster_form.specs.Turns.{IsTurn}
 use Rattle.cluster_form.proofs.Lists.{all_such, bool, other_number, same_number}
 use Rattle.genbook.specs.Books.{Books, core_of}
 use Rattle.genbook.specs.Changes.{numbers_of}
 use Rattle.genbook.specs.Rules.{DrawsForMembers}
-use Rattle.px_core.specs.Beginning.{IsBeginning, IsTold, spent}
+use Rattle.px_core.specs.Beginning.{IsBeginning, IsPlanned, IsTold, spent}
 use Rattle.px_core.specs.Parts.{core_with, no_reads}
 use Rattle.px_core.specs.declared.pushes.Beginning.{Beginning}
 use Rattle.px_core.proofs.Tables.{reads_set}
@@ -110,15 +110,7 @@ spent_refuses core repo book why there free writable is =
 
 -- ---- a push that was worked out
 
--- the repository is on record, nothing refuses the push, and it is the one that begins
-pub record IsPlanned (core : Core) (repo : ℕ) (plan : Beginning) : Type 0 where
-  pub accepted : begin_refusal core repo (repository core repo) ≡ None
-  pub book : Repository
-  pub there : repository core repo ≡ Some book
-  pub none : begin_refusal core repo (Some book) ≡ None
-  pub is : IsBeginning core repo book plan
-
-planned : (core : Core) (repo : ℕ) (plan : Beginning)
+pub planned : (core : Core) (repo : ℕ) (plan : Beginning)
     → begin_refusal core repo (repository core repo) ≡ None
     → IfSome (repository core repo) (λ book. IsBeginning core repo book plan)
     → IsPlanned core repo plan
@@ -131,13 +123,11 @@ planned core repo plan none is = by (repository core repo) refl none is
     by (Some book) there none_ is_ =
         record { accepted = none; book = book; there = there; none = none_; is = is_ }
 
--- the same of a core that is seen as another
-pub planned_in : (core seen : Core) (repo : ℕ) (plan : Beginning) → core ≡ seen
-    → begin_refusal seen repo (repository seen repo) ≡ None
-    → IfSome (repository seen repo) (λ book. IsBeginning seen repo book plan)
-    → IsPlanned core repo plan
-planned_in known seen repo plan same none is =
-    subst (λ (one : Core). IsPlanned one repo plan) (sym same) (planned seen repo plan none is)
+-- the repository is that of the push
+pub planned_own : (core : Core) (repo : ℕ) (plan : Beginning) → IsPlanned core repo plan
+    → IsPlanned core plan.push.repo plan
+planned_own core repo plan is = subst (λ (n : ℕ). IsPlanned core n plan)
+    (sym (ap (λ (push : OpenPush). push.repo) is.is.push)) is
 
 -- its repository has a number that is on the book
 pub within : (repositories : List Repository) (repo : ℕ) (book : Repository)
@@ -162,6 +152,26 @@ pub begin_answer : (core : Core) (repo : ℕ) (book : Repository) (begun : Begun
     → IsTold core book (members core book) (targets core book) begun
     → reply.Begun begun ≡ answer_of core (op.Begin (repo_id repo))
 begin_answer core repo book begun there told = rw there (ap reply.Begun told)
+
+pub begin_replies : (core : Core) (repo : ℕ) (book : Repository) (begun : Begun)
+    → repository core repo ≡ Some book → begin_refusal core repo (Some book) ≡ None
+    → IsTold core book (members core book) (targets core book) begun
+    → reply.Begun begun ≡ reply_of core (op.Begin (repo_id repo))
+begin_replies core repo book begun there none told = rw there (rw none (ap reply.Begun told))
+
+-- the push is found by its transaction, which is later than all others
+pub begun_found : (push : OpenPush) (pushes : List OpenPush)
+    → AllByRecursion (λ (other : OpenPush). other.tx.0 < push.tx.0) pushes
+    → find (λ (other : OpenPush). other.tx.0 == push.tx.0) (pushes ++ push ∷ []) ≡ Some push
+begun_found push [] later = elim (bool (push.tx.0 == push.tx.0)) [
+  | inl holds ↦ (rw holds refl)
+  | inr fails ↦ absurd (other_number push.tx.0 push.tx.0 fails refl)
+]
+begun_found push (first ∷ pushes) later = elim (bool (first.tx.0 == push.tx.0)) [
+  | inl holds ↦ absurd (let is = same_number first.tx.0 push.tx.0 holds in
+      let below = later.0 in omega (arith, is, below))
+  | inr fails ↦ (rw fails (begun_found push pushes later.1))
+]
 
 -- what was worked out along the members and the targets of the rule is the push that begins
 pub is_beginning : (core : Core) (repo : ℕ) (book : Repository) (storages others : List StorageId)

@@ -11,3 +11,4 @@ mod OpenPushes
 mod Planning
 mod Begins
 mod Counts
+mod StorageNames

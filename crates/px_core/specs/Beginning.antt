@@ -1,12 +1,13 @@
 -- A push that is to begin.
-use Rattle.std.specs.Prelude.{◌≡◌, ℕ, ◌+◌, List, [], ◌∷◌, Option}
+use Rattle.std.specs.Prelude.{◌≡◌, ℕ, ◌+◌, List, [], ◌∷◌, IsSome, Option, None, Some}
+use Rattle.px_base.specs.declared.ids.RepoId.{RepoId}
 use Rattle.px_ops.specs.declared.push.Begun.{Begun}
 use Rattle.px_ops.specs.declared.refusal.Refusal.{Refusal}
 use Rattle.px_cluster.specs.Book.{Repository}
-use Rattle.px_cluster.specs.Core.{Core, names_of}
+use Rattle.px_cluster.specs.Core.{Core, names_of, repository}
 use Rattle.px_cluster.specs.Ids.{gen}
 use Rattle.px_cluster.specs.Members.{members, panel_of, targets}
-use Rattle.px_cluster.specs.Pushes.{beginning, drawn_for_members, next_tx}
+use Rattle.px_cluster.specs.Pushes.{begin_refusal, beginning, drawn_for_members, next_tx}
 use Rattle.px_cluster.specs.Refusals.{first_cause, generations_spent, leases_spent, transactions_spent}
 use Rattle.px_core.specs.declared.pushes.Beginning.{Beginning}
 
@@ -31,3 +32,16 @@ pub record IsBeginning (core : Core) (repo : ℕ) (book : Repository) (plan : Be
   pub entry : plan.entry ≡ drawn_for_members (beginning core repo book) book
   pub panel : plan.panel ≡ panel_of core (members core book)
   pub told : IsTold core book (members core book) (targets core book) plan.begun
+
+-- the repository is on record, nothing refuses the push, and it is the one that begins
+pub record IsPlanned (core : Core) (repo : ℕ) (plan : Beginning) : Type 0 where
+  pub accepted : begin_refusal core repo (repository core repo) ≡ None
+  pub book : Repository
+  pub there : repository core repo ≡ Some book
+  pub none : begin_refusal core repo (Some book) ≡ None
+  pub is : IsBeginning core repo book plan
+
+-- the push that begins next, where nothing refuses it
+abbrev pub IsPlan : Core → RepoId → Option Beginning → Type 0
+IsPlan core repo None = IsSome (begin_refusal core repo.0 (repository core repo.0))
+IsPlan core repo (Some plan) = IsPlanned core repo.0 plan

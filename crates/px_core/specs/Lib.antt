@@ -5,6 +5,7 @@ pub mod Faults
 pub mod Few
 pub mod Known
 pub mod Parts
+pub mod Readers
 pub mod Served
 pub mod Sound
 pub mod Steps

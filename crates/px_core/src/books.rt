@@ -1,16 +1,18 @@
 //! The operations on storages and repositories.
 
-ghost use Rattle.std.specs.Prelude.{◌≡◌, ◌<◌, length, IfOk};
+ghost use Rattle.std.specs.Prelude.{◌≡◌, ◌<◌, length, None, Some, IfErr, IfOk, OnOk};
 ghost use Rattle.px_ops.specs.declared.op.Op.TheVariants as op;
-ghost use Rattle.px_cluster.specs.Ops.{next_core, reply_of};
+ghost use Rattle.px_cluster.specs.Ops.{next_core, refusal_of, reply_of};
 ghost use Rattle.px_cluster.specs.Reads.{booked_reply, row_of};
 ghost use Rattle.cluster_form.specs.Books.{IsDense};
+ghost use Rattle.genbook.specs.Calls.{enrol_cause};
+ghost use Rattle.px_core.specs.Readers.{IsNextCreation};
 ghost use Rattle.px_core.specs.Steps.{Steps};
 
 use crate::Core;
 use crate::fault::Fault;
 use crate::names::{name_of, names_of};
-use genbook::{Replica, Repository};
+use genbook::{BookFault, Creation, Replica, Repository};
 use px_base::{Lease, RepoId, RepoPath, StorageId, StorageName};
 use px_ops::{BookRow, BookRows, Refusal, Reply};
 use std::alloc::{AllocError, Global};
@@ -69,6 +71,25 @@ impl Core {
         })
     }
 
+    /// Works out the creation of a repository that would be done now; there is none where something
+    /// refuses it. Nothing changes by it.
+    pub fn creation(
+        &mut self,
+        alloc: Global,
+        virt: &StorageName,
+        path: &RepoPath,
+        factor: u32,
+    ) -> Result<Option<Creation>, AllocError>
+        ensures plan { IfOk result (IsNextCreation self.old virt.now path.now factor) }
+        ensures same { self.new ≡ self.old }
+    {
+        match self.book.plan_create(alloc, virt, path, factor) {
+            Ok(creation) => Ok(Some(creation)),
+            Err(BookFault::Refused(_)) => Ok(None),
+            Err(BookFault::Memory) => Err(AllocError),
+        }
+    }
+
     /// Books the empty replica that a storage made. Refused are, in this order, `UnknownRepo`,
     /// `UnknownStorage`, `LeaseLost` and `NotMaking`.
     pub(crate) fn enrol(&mut self, repo: RepoId, storage: StorageId, lease: Lease) -> Reply
@@ -78,6 +99,20 @@ impl Core {
         match self.book.enrol(repo, storage, lease) {
             Ok(()) => Reply::Done,
             Err(refusal) => Reply::Refused(refusal),
+        }
+    }
+
+    /// Nothing refuses to book the empty replica of a storage. Else it is the first of `UnknownRepo`,
+    /// `UnknownStorage`, `LeaseLost` and `NotMaking` that holds.
+    pub fn may_enrol(&self, repo: RepoId, storage: StorageId, lease: Lease) -> Result<(), Refusal>
+        ensures accepted { OnOk result (refusal_of self.now (op.Enrol repo storage lease) ≡ None) }
+        ensures refused { IfErr result (λ why.
+            refusal_of self.now (op.Enrol repo storage lease) ≡ Some why) }
+    {
+        self.book.has_place(repo, storage)?;
+        match self.book.repository(repo) {
+            Some(repository) => is_making(repository, storage, lease),
+            None => Err(Refusal::UnknownRepo),
         }
     }
 
@@ -127,4 +162,20 @@ impl Core {
             Err(refusal) => Reply::Refused(refusal),
         }
     }
+}
+
+// The replica on a storage is to be made under this lease, and the lease is the last one that was
+// drawn for it.
+fn is_making(repository: &Repository, storage: StorageId, lease: Lease) -> Result<(), Refusal>
+    ensures accepted { OnOk result (enrol_cause repository.now storage.0 lease ≡ None) }
+    ensures refused { IfErr result (λ why. enrol_cause repository.now storage.0 lease ≡ Some why) }
+{
+    let kept = repository.kept(storage);
+    if kept != lease {
+        return Err(Refusal::LeaseLost { kept, given: lease });
+    }
+    if repository.creation_lease() != lease {
+        return Err(Refusal::NotMaking);
+    }
+    Ok(())
 }

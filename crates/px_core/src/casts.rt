@@ -1,10 +1,10 @@
 //! A vote, with what it books where it is one on a push.
 
-ghost use Rattle.std.specs.Prelude.{◌≡◌, None, Some, IfErr, IfOk};
+ghost use Rattle.std.specs.Prelude.{◌≡◌, None, Some, IfErr, IfOk, IsSome};
 ghost use Rattle.px_ops.specs.declared.op.Op.TheVariants as op;
 ghost use Rattle.txmanager.specs.VoterCalls.{cast_answer};
 ghost use Rattle.px_cluster.specs.Core.{push_of};
-ghost use Rattle.px_cluster.specs.Ops.{refused_at};
+ghost use Rattle.px_cluster.specs.Ops.{refusal_of, refused_at};
 ghost use Rattle.px_core.specs.Counting.{IsCounted};
 ghost use Rattle.px_core.specs.Steps.{IsCause, Steps};
 
@@ -15,7 +15,7 @@ use crate::refusal::of_transaction;
 use genbook::Repository;
 use px_base::{Hash, Phase, StorageName, TxId};
 use px_ops::{Refusal, Reply};
-use std::alloc::Global;
+use std::alloc::{AllocError, Global};
 use turns::OpenPush;
 use txmanager::Transaction;
 use voters::VoterResult;
@@ -60,6 +60,29 @@ impl Core {
         self.votes.put(tx, then);
         self.book.put(repo, entry);
         Ok(Reply::Counted { sub, result })
+    }
+
+    /// Why a vote on an open push would be refused now, if it would. Nothing changes by it.
+    pub fn cast_refusal(
+        &self,
+        alloc: Global,
+        tx: TxId,
+        voter: &StorageName,
+        phase: Phase,
+        hash: &Hash,
+    ) -> Result<Option<Refusal>, AllocError>
+        requires { IsSome (push_of self.now tx) }
+        ensures { IfOk result
+            (λ why. why ≡ refusal_of self.now (op.Cast tx voter.now phase hash.now)) }
+    {
+        let Some(push) = self.turns.push(tx) else {
+            unreachable!();
+        };
+        match self.plan_cast(alloc, push, voter, phase, hash) {
+            Ok(_) => Ok(None),
+            Err(Fault::Refused(refusal)) => Ok(Some(refusal)),
+            Err(Fault::Memory) => Err(AllocError),
+        }
     }
 
     // Counts a vote on a transaction that is no push.

@@ -8,9 +8,11 @@ mod casts;
 mod fault;
 mod names;
 mod pushes;
+mod readers;
 mod refusal;
 mod state;
 mod step;
 mod votes;
 
+pub use pushes::Beginning;
 pub use state::Core;

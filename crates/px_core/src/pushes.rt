@@ -1,9 +1,10 @@
 //! The operations on pushes.
 
-ghost use Rattle.std.specs.Prelude.{◌≡◌, ◌<◌, ◌-◌, ◌^◌, None, Some, IfErr, IfOk, IfSome, OnOk};
+ghost use Rattle.std.specs.Prelude.{◌≡◌, ◌<◌, ◌-◌, ◌^◌, None, Some, IfErr, IfOk, IfSome, OnErr, OnOk};
 ghost use Rattle.px_ops.specs.declared.op.Op.TheVariants as op;
 ghost use Rattle.px_ops.specs.declared.reply.Reply.TheVariants as reply;
 ghost use Rattle.px_cluster.specs.Core.{push_of, repository, voting};
+ghost use Rattle.px_cluster.specs.Ids.{repo_id};
 ghost use Rattle.px_cluster.specs.Members.{members, targets};
 ghost use Rattle.px_cluster.specs.Ops.{next_core, reply_of};
 ghost use Rattle.px_cluster.specs.Pushes.{begin_refusal, end_of, finish_refusal, finish_reply, is_still_open};
@@ -11,7 +12,7 @@ ghost use Rattle.px_cluster.specs.Refusals.{leases_spent, transactions_spent};
 ghost use Rattle.genbook.specs.Books.{core_of};
 ghost use Rattle.genbook.specs.Changes.{numbers_of};
 ghost use Rattle.genbook.specs.Rules.{DrawsForMembers};
-ghost use Rattle.px_core.specs.Beginning.{IsBeginning, IsTold, spent};
+ghost use Rattle.px_core.specs.Beginning.{IsBeginning, IsPlan, IsPlanned, IsTold, spent};
 ghost use Rattle.px_core.specs.Known.{AreKnown};
 ghost use Rattle.px_core.specs.Steps.{Steps};
 
@@ -28,14 +29,17 @@ use turns::OpenPush;
 use txmanager::Transaction;
 use voters::{Outcome, Panel};
 
-/// A push that is to begin: what the book then has of its repository, the panel of its members, and
-/// what is told of it.
+/// A push that is to begin. It is worked out before anything changes.
 #[derive(Drop)]
-pub(crate) struct Beginning {
-    pub(crate) entry: Repository,
-    pub(crate) push: OpenPush,
-    pub(crate) panel: Panel,
-    pub(crate) begun: Begun,
+pub struct Beginning {
+    /// What the book then has of its repository.
+    pub entry: Repository,
+    /// The push.
+    pub push: OpenPush,
+    /// Its members, as voters.
+    pub panel: Panel,
+    /// What is told of it.
+    pub begun: Begun,
 }
 
 impl Core {
@@ -45,17 +49,50 @@ impl Core {
         ensures { Steps self.old (op.Begin repo) result self.new }
     {
         self.may_begin(repo)?;
+        let plan = self.plan_push(alloc, repo)?;
+        match self.begin_as(alloc, plan) {
+            Ok(reply) => Ok(reply),
+            Err(_) => Err(Fault::Memory),
+        }
+    }
+
+    /// Works out the push of a repository that would begin now; there is none where something
+    /// refuses it. Nothing changes by it.
+    pub fn plan_begin(&self, alloc: Global, repo: RepoId) -> Result<Option<Beginning>, AllocError>
+        ensures { IfOk result (IsPlan self.now repo) }
+    {
+        match self.may_begin(repo) {
+            Ok(()) => match self.plan_push(alloc, repo) {
+                Ok(plan) => Ok(Some(plan)),
+                Err(fault) => Err(fault),
+            },
+            Err(_) => Ok(None),
+        }
+    }
+
+    /// Begins a push that was worked out for this core, as `step` does. Where memory wants for its
+    /// rows in the tables of turns and transactions, nothing changes.
+    pub fn begin_as(&mut self, alloc: Global, plan: Beginning) -> Result<Reply, AllocError>
+        requires { IsPlanned self.old plan.push.repo plan }
+        ensures reply { IfOk result (λ reply. reply
+            ≡ reply_of self.old (op.Begin (repo_id plan.push.repo))) }
+        ensures state { OnOk result (self.new
+            ≡ next_core self.old (op.Begin (repo_id plan.push.repo))) }
+        ensures turn { OnOk result (push_of self.new plan.push.tx ≡ Some plan.push) }
+        ensures err { OnErr result (self.new ≡ self.old) }
+    {
         let Beginning {
             entry,
             push,
             panel,
             begun,
-        } = self.plan_push(alloc, repo)?;
+        } = plan;
         let tx = begun.tx;
+        let repo = push.repo();
         self.turns.begin(push)?;
         if self.votes.register(alloc, tx, &panel, 1).is_err() {
             self.turns.end(tx);
-            return Err(Fault::Memory);
+            return Err(AllocError);
         }
         self.last = tx.0;
         self.book.put(repo, entry);

@@ -3,10 +3,10 @@
 ghost use Rattle.script_run.specs.Acts.{Acts};
 ghost use Rattle.script_run.specs.Ends.{EndHasCause};
 ghost use Rattle.script_run.specs.Stream.{streams};
-ghost use Rattle.px_world.specs.Machine.{machine};
+ghost use Rattle.script_rules.specs.Machine.{machine};
 ghost use Rattle.px_world.specs.Rehearsal.{Rehearses, input_limit};
 
-use crate::{Event, Reply, World, add_line};
+use crate::{Answer, Event, World, add_line};
 use px_base::{Bytes, Sink, Source};
 use px_script::{ScriptLine, read_line};
 use script_run::{Act, RehearseEnd, StateMachine, run_script};
@@ -18,20 +18,20 @@ pub const MAX_INPUT_BYTES: u64 = 1 << 40;
 impl StateMachine for World {
     type Event = Event;
 
-    type Reply = Reply;
+    type Reply = Answer;
 
-    ghost use Rattle.std.proofs.Common.{sym, ◌∙◌};
-    ghost use Rattle.px_world.specs.Machine.{machine};
-    ghost use Rattle.px_world.specs.State.{State};
+    ghost use Rattle.px_cluster.specs.Cluster.{Cluster};
+    ghost use Rattle.px_world.specs.World.{cluster_of};
+    ghost use Rattle.script_rules.proofs.OneAnswer.{one_answer};
+    ghost use Rattle.script_rules.specs.Machine.{machine};
 
-    ghost State = { State };
+    ghost State = { Cluster };
 
-    ghost state = { λ w. w };
+    ghost state = { λ w. cluster_of w };
 
     ghost machine = { machine };
 
-    ghost one_answer = { λ s s' s'' e r r' a b.
-        (a.answers ∙ sym b.answers, a.leads ∙ sym b.leads) };
+    ghost one_answer = { one_answer };
 
     fn act(&mut self, alloc: Global, line: &[u8], text: &mut Bytes) -> Act {
         let event = match read_line(alloc, line) {
@@ -40,10 +40,10 @@ impl StateMachine for World {
             ScriptLine::Bad => return Act::Bad,
             ScriptLine::Memory => return Act::Memory,
         };
-        let Ok(reply) = self.step(alloc, &event) else {
+        let Ok(answer) = self.step(alloc, &event) else {
             return Act::Memory;
         };
-        match add_line(text, &reply) {
+        match add_line(text, &answer) {
             Ok(()) => Act::Prints,
             Err(_) => Act::Memory,
         }

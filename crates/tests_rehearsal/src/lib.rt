@@ -2,14 +2,32 @@
 #![tactic(auto)]
 
 #[cfg(test)]
+mod creations;
+#[cfg(test)]
+mod ends;
+#[cfg(test)]
 mod faults;
+#[cfg(test)]
+mod late;
 #[cfg(test)]
 mod limits;
 #[cfg(test)]
 mod lines;
 #[cfg(test)]
+mod many;
+#[cfg(test)]
+mod members;
+#[cfg(test)]
+mod node_refusals;
+#[cfg(test)]
+mod pushes;
+#[cfg(test)]
+mod refusals;
+#[cfg(test)]
 mod rows;
 #[cfg(test)]
 mod runs;
+#[cfg(test)]
+mod scripts;
 #[cfg(test)]
 mod worlds;

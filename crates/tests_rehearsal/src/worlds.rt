@@ -1,7 +1,10 @@
 //! Lines and events at a world, and what it answers.
 
+ghost use Rattle.std.specs.Prelude.{IfOk};
+ghost use Rattle.px_world.specs.Plain.{IsServedEvent};
+
 use px_base::{Bytes, MemSink, MemSource, RepoId, StorageName, TxId};
-use px_world::{Event, Op, Refusal, RehearseEnd, Reply, World, add_line, rehearse};
+use px_world::{Answer, Event, Op, Refusal, RehearseEnd, Reply, World, add_line, rehearse};
 use script_run::{Act, StateMachine};
 use std::alloc::Global;
 use std::test::Fail;
@@ -25,37 +28,53 @@ fn act(alloc: Global, world: &mut World, line: &str) -> Result<String, Fail> {
     }
 }
 
-// Events on the first vote of the first transaction, a stop of the second one, and a push, which no
-// line asks for.
-fn event(word: &str) -> Result<Event, Fail> {
-    let (tx, sub) = (TxId(1), 1);
+// An event of which no text was read: an operation on the first transaction or the first repository, a
+// stop of the second transaction, or what is asked of the storage `a`.
+fn event(word: &str) -> Result<Event, Fail>
+    ensures { IfOk result IsServedEvent }
+{
+    let (tx, sub, repo, name) = (TxId(1), 1, RepoId(0), StorageName::read(b"a")?);
     let op = match word {
         "collect" => Op::Collect {
             tx,
-            voter: StorageName::read(b"a")?,
+            voter: name,
             sub,
         },
         "outcome" => Op::Outcome { tx, sub },
         "stop" => Op::Stop { tx: TxId(2) },
-        _ => Op::Begin { repo: RepoId(0) },
+        "begin" => Op::Begin { repo },
+        "refs" => return Ok(Event::Refs { name, repo }),
+        _ => return Ok(Event::Commit { tx, name }),
     };
     Ok(Event::Operation(op))
 }
 
-// The reply to an event, and its line.
-fn step(alloc: Global, world: &mut World, asked: &Event) -> Result<String, Fail> {
-    let reply = world.step(alloc, asked)?;
-    let kind = match reply {
+fn replied(reply: &Reply) -> &'static str {
+    match reply {
         Reply::Counted {
             sub: 1,
             result: VoterResult::Open,
         } => "counted",
         Reply::OutcomeIs(Outcome::Open) => "outcome",
         Reply::Refused(Refusal::UnknownTx(TxId(2))) => "unknown",
+        Reply::Refused(_) => "refusal",
         _ => "another",
+    }
+}
+
+// The answer to an event, and its line.
+fn step(alloc: Global, world: &mut World, asked: &Event) -> Result<String, Fail>
+    requires { IsServedEvent asked.now }
+{
+    let answer = world.step(alloc, asked)?;
+    let kind = match &answer {
+        Answer::Replied(reply) => replied(reply),
+        Answer::Done => "done",
+        Answer::Voted(_) => "vote",
+        Answer::Refs(_) => "references",
     };
     let mut line = Bytes::new(alloc);
-    add_line(&mut line, &reply)?;
+    add_line(&mut line, &answer)?;
     Ok(format!(in alloc; "{kind} {}", printed(line.as_slice()))?)
 }
 
@@ -66,31 +85,23 @@ fn answer(alloc: Global, world: &mut World, name: &str, rest: &str) -> Result<St
     }
 }
 
-// The number is 2^64 - 1.
-const LAST_NUMBER: &str = "\
-    act open 1 1 a:1 -> before tx 18446744073709551615
-    act open 1 1 a:1 -> before refused TransactionsSpent
-    act outcome 18446744073709551615 1 -> before open
-    act # nothing -> nothing
-    act nothing -> bad";
-
-#[test]
-fn the_last_number_is_given_once(rt: HostRuntime) -> Result<(), Fail> {
-    let alloc = rt.alloc();
-    play(
-        alloc,
-        &mut World::after(alloc, TxId(u64::MAX - 1)),
-        answer,
-        LAST_NUMBER,
-    )
-}
-
 const STEPS: &str = "\
     act open 1 1 a:1 -> before tx 1
     step collect -> counted open
     step outcome -> outcome open
     step stop -> unknown refused UnknownTx 2
-    step begin -> another refused NotOut";
+    step begin -> refusal refused UnknownRepo
+    step commit -> refusal refused UnknownStorage a
+    act storage default a -> before storage 0
+    step commit -> refusal refused NotOut
+    step refs -> refusal refused NotOut
+    act health a up -> before ok
+    act create default x.git 1 -> before created 0 lease 1 assigned a
+    step refs -> refusal refused NoRepo
+    act make a 0 1 -> before done
+    step refs -> references refs
+    act nothing -> bad
+    act # nothing -> nothing";
 
 #[test]
 fn a_step_answers_and_its_reply_has_a_line(rt: HostRuntime) -> Result<(), Fail> {

@@ -1,0 +1,11 @@
+mod Ends
+mod MarkLists
+mod NextJobs
+mod Numbered
+mod OneJob
+mod Orders
+mod Removals
+mod RowTables
+mod Searches
+mod StaleJobs
+mod Upkeep

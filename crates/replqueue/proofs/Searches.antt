@@ -38,14 +38,6 @@ within from n is = grind (arith, nat_tests)
 pub before : (from n : ℕ) → n < from → nat_le from n ≡ false
 before from n is = grind (arith, nat_tests)
 
--- from 0 on, all that pass are meant
-pub from_first : (test : Job → Bool) (jobs : List Job) → find (passes_from 0 test) jobs ≡ find test jobs
-from_first test jobs = find_same (passes_from 0 test) test jobs (each jobs)
-  where
-    each : (jobs : List Job) → AllByRecursion (λ (job : Job). passes_from 0 test job ≡ test job) jobs
-    each [] = tt
-    each (job ∷ jobs) = (ap (λ b. b && test job) (from_zero job.number.0), each jobs)
-
 -- ---- by marks
 
 module _ (test : Job → Bool) where

@@ -55,15 +55,18 @@ first_less Equal p is = refl
 first_less Greater p is = absurd cc
 
 -- on one line the numbers are in order
-on_one_line : (line a b : ℕ) → is_gt (mark_cmp (mark_of line a) (mark_of line b)) ≡ is_gt (nat_cmp a b)
+on_one_line : (line a b : ℕ) → is_gt (mark_cmp (mark_of line a) (mark_of line b))
+    ≡ is_gt (nat_cmp a b)
 on_one_line line a b = rw (self_cmp line) refl
 
 -- ---- marks that come and go
 
 -- one mark more loses none
 pub marked_keeps : (mark : Mark) (old new : List Mark)
-    → ((q : Mark) → holds new q ≡ cond (is_at (mark_cmp mark) q) true (holds old q)) → KeepsAll old new
-marked_keeps mark old new becomes line number is = becomes (mark_of line number) ∙ either (is_at (mark_cmp mark) (mark_of line number)) is
+    → ((q : Mark) → holds new q ≡ cond (is_at (mark_cmp mark) q) true (holds old q))
+    → KeepsAll old new
+marked_keeps mark old new becomes line number is = becomes (mark_of line number)
+    ∙ either (is_at (mark_cmp mark) (mark_of line number)) is
   where
     either : {b : Bool} (a : Bool) → b ≡ true → cond a true b ≡ true
     either true is = refl
@@ -71,9 +74,12 @@ marked_keeps mark old new becomes line number is = becomes (mark_of line number)
 
 -- one mark less loses none of another number
 pub unmarked_keeps : (line number : ℕ) (old new : List Mark)
-    → ((q : Mark) → holds new q ≡ cond (is_at (mark_cmp (mark_of line number)) q) false (holds old q)) → KeepsOthers number old new
+    → ((q : Mark) → holds new q ≡ cond (is_at (mark_cmp (mark_of line number)) q) false
+    (holds old q)) → KeepsOthers number old new
 unmarked_keeps line number old new becomes l other another is =
-    becomes (mark_of l other) ∙ rw (then_other (nat_cmp line l) (nat_cmp number other) (other_cmp number other another)) is
+    becomes (mark_of l other)
+    ∙ rw (then_other (nat_cmp line l) (nat_cmp number other) (other_cmp number other another))
+    is
 
 -- ---- the next mark
 
@@ -87,24 +93,30 @@ pub from_number : (line from : ℕ) → Starts line from (Included (mark_of line
 from_number line from = record {
   inside = λ number within. on_one_line line from number ∙ not_above from number within;
   behind = λ number is. less_or_same from number (sym (on_one_line line from number) ∙ is);
-  ahead = λ mark is. less_or_same line mark.line (first_part (nat_cmp line mark.line) (nat_cmp from mark.number) is);
+  ahead = λ mark is. less_or_same line mark.line (first_part (nat_cmp line mark.line)
+      (nat_cmp from mark.number) is);
 }
 
 pub after_number : (line number : ℕ) → Starts line (number + 1) (Excluded (mark_of line number))
 after_number line number = record {
   inside = λ other within. rw (self_cmp line) (less_cmp number other (omega (arith, within)));
-  behind = λ other is. let below : number < other = cmp_less number other (rw (self_cmp line) at is) in omega (arith, below);
-  ahead = λ mark is. less_or_same line mark.line (first_less (nat_cmp line mark.line) (nat_cmp number mark.number) is);
+  behind = λ other is. let below : number < other =
+      cmp_less number other (rw (self_cmp line) at is) in omega (arith, below);
+  ahead = λ mark is. less_or_same line mark.line (first_less (nat_cmp line mark.line)
+      (nat_cmp number mark.number) is);
 }
 
-module _ (set : BTreeSet Mark) (line from : ℕ) (bound : Bound Mark) (starts : Starts line from bound) where
+module _ (set : BTreeSet Mark) (line from : ℕ) (bound : Bound Mark)
+    (starts : Starts line from bound) where
   abbrev FromHere : List Mark → Type 0
   FromHere marks = IsKeyRangeOf mark_cmp bound Unbounded set marks
 
   -- a number that is marked on the line, from here on, is not before the next mark
-  not_before : (mark : Mark) (rest : List Mark) → FromHere (mark ∷ rest) → (number : ℕ) → from ≤ number
+  not_before : (mark : Mark) (rest : List Mark) → FromHere (mark ∷ rest) → (number : ℕ)
+      → from ≤ number
       → has set.keys line number ≡ true → is_gt (mark_cmp mark (mark_of line number)) ≡ false
-  not_before mark rest range number within is = range.2 (mark_of line number) (starts.inside number within, tt) is
+  not_before mark rest range number within is =
+      range.2 (mark_of line number) (starts.inside number within, tt) is
 
   -- the next mark is on the line
   found_next : (number : ℕ) (rest : List Mark) → FromHere (mark_of line number ∷ rest)
@@ -114,30 +126,36 @@ module _ (set : BTreeSet Mark) (line from : ℕ) (bound : Bound Mark) (starts : 
     λ other within below. elim (cases_Bool (has set.keys line other)) [
       | inl t ↦
           (let behind : number ≤ other = less_or_same number other
-          (sym (on_one_line line number other) ∙ not_before (mark_of line number) rest range other within t) in
+          (sym (on_one_line line number other) ∙ not_before (mark_of line number) rest range other
+          within t) in
           absurd (omega (arith, behind, below)))
       | inr f ↦ f
     ],
   )
 
   -- the next mark is on another line
-  passed_line : (mark : Mark) (rest : List Mark) → FromHere (mark ∷ rest) → (mark.line == line) ≡ false → NoneFrom set.keys line from
+  passed_line : (mark : Mark) (rest : List Mark) → FromHere (mark ∷ rest) → (mark.line == line)
+      ≡ false → NoneFrom set.keys line from
   passed_line mark rest range another number within = elim (cases_Bool (has set.keys line number)) [
     | inl t ↦
         (let above : line ≤ mark.line = starts.ahead mark range.1.0.0 in
         let below : mark.line ≤ line = less_or_same mark.line line
-        (first_part (nat_cmp mark.line line) (nat_cmp mark.number number) (not_before mark rest range number within t)) in
+        (first_part (nat_cmp mark.line line) (nat_cmp mark.number number)
+        (not_before mark rest range number within t)) in
         absurd (grind (arith, nat_tests)))
     | inr f ↦ f
   ]
 
   same_line : (mark : Mark) → (mark.line == line) ≡ true → mark ≡ mark_of line mark.number
-  same_line mark is = let same : mark.line ≡ line = grind (arith, nat_tests) in λ i. mark_of (same i) mark.number
+  same_line mark is = let same : mark.line ≡ line = grind (arith, nat_tests) in
+      λ i. mark_of (same i) mark.number
 
   pub next_some : (mark : Mark) (rest : List Mark) → FromHere (mark ∷ rest)
-      → IfSome (number_on line mark) (λ number. (from ≤ number) × NoneBetween set.keys line from number)
+      → IfSome (number_on line mark) (λ number. (from ≤ number)
+      × NoneBetween set.keys line from number)
   next_some mark rest range = elim (cases_Bool (mark.line == line)) [
-    | inl t ↦ rw t (found_next mark.number rest (subst (λ (first : Mark). FromHere (first ∷ rest)) (same_line mark t) range))
+    | inl t ↦ rw t (found_next mark.number rest (subst (λ (first : Mark). FromHere (first ∷ rest))
+        (same_line mark t) range))
     | inr f ↦ rw f tt
   ]
 
@@ -150,4 +168,5 @@ module _ (set : BTreeSet Mark) (line from : ℕ) (bound : Bound Mark) (starts : 
 
   -- there is no next mark
   pub none_next : FromHere [] → NoneFrom set.keys line from
-  none_next range number within = range.5 refl (mark_of line number) (starts.inside number within, tt)
+  none_next range number within =
+      range.5 refl (mark_of line number) (starts.inside number within, tt)

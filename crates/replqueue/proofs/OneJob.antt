@@ -24,7 +24,8 @@ use Rattle.replqueue.proofs.Orders.{all_pass, has_its_number, none_found}
 abbrev pub core_with : List Job → ℕ → Core
 core_with jobs last = record empty { jobs = jobs; last_job = last }
 
-pub same_core : (jobs new : List Job) (last last_new : ℕ) → new ≡ jobs → last_new ≡ last → core_with new last_new ≡ core_with jobs last
+pub same_core : (jobs new : List Job) (last last_new : ℕ) → new ≡ jobs → last_new ≡ last
+    → core_with new last_new ≡ core_with jobs last
 same_core jobs new last last_new is number = λ i. core_with (is i) (number i)
 
 -- ---- states
@@ -45,7 +46,8 @@ waiting_holds Cancelled is = absurd (let no : false ≡ true = is in cc)
 waiting_holds Failed is = refl
 waiting_holds Dead is = absurd (let no : false ≡ true = is in cc)
 
-pub ready_rests : {A : Type 0} (state : JobState) → is_ready state ≡ true → is_in_progress state ≡ true → A
+pub ready_rests : {A : Type 0} (state : JobState) → is_ready state ≡ true → is_in_progress state
+    ≡ true → A
 ready_rests Ready ready works = absurd (let no : false ≡ true = works in cc)
 ready_rests InProgress ready works = absurd (let no : false ≡ true = ready in cc)
 ready_rests Completed ready works = absurd (let no : false ≡ true = ready in cc)
@@ -54,7 +56,8 @@ ready_rests Failed ready works = absurd (let no : false ≡ true = ready in cc)
 ready_rests Dead ready works = absurd (let no : false ≡ true = ready in cc)
 
 -- whose worker is heard, is in progress
-pub heard_works : (number : JobId) (lease : ℕ) (row : Job) → worker_refusal number lease (Some row) ≡ None → is_in_progress row.state ≡ true
+pub heard_works : (number : JobId) (lease : ℕ) (row : Job) → worker_refusal number lease (Some row)
+    ≡ None → is_in_progress row.state ≡ true
 heard_works number lease row heard = elim (cases_Bool (is_in_progress row.state)) [
   | inl t ↦ t
   | inr f ↦ absurd (let some : Some (BadState row.state) ≡ None = rw f at heard in cc)
@@ -62,35 +65,45 @@ heard_works number lease row heard = elim (cases_Bool (is_in_progress row.state)
 
 -- ---- the number of a job
 
-module _ (queue : Queued) (job : JobId) (row : Job) (found : job_at (core_of queue) job.0 ≡ Some row) where
+module _ (queue : Queued) (job : JobId) (row : Job) (found : job_at (core_of queue) job.0
+    ≡ Some row) where
   pub number_is : row.number.0 ≡ job.0
   number_is = has_its_number job.0 queue.jobs row found
 
   pub found_itself : job_at (core_of queue) row.number.0 ≡ Some row
-  found_itself = subst (λ (number : ℕ). job_at (core_of queue) number ≡ Some row) (sym number_is) found
+  found_itself = subst (λ (number : ℕ). job_at (core_of queue) number ≡ Some row) (sym number_is)
+      found
 
   pub same_id : row.number ≡ job
   same_id = λ i. job_id (number_is i)
 
 -- ---- where there is none
 
-pub none_dropped : (queue : Queued) (job : JobId) → job_at (core_of queue) job.0 ≡ None → without_job job (core_of queue) ≡ core_of queue
+pub none_dropped : (queue : Queued) (job : JobId) → job_at (core_of queue) job.0 ≡ None
+    → without_job job (core_of queue) ≡ core_of queue
 none_dropped queue job none = ap (λ (jobs : List Job). core_with jobs queue.last)
-    (all_pass (λ (row : Job). not (row.number.0 == job.0)) queue.jobs (all_such _ _ queue.jobs (λ row other. ap not other) (none_found (has_number job.0) queue.jobs none)))
+    (all_pass (λ (row : Job). not (row.number.0 == job.0)) queue.jobs (all_such _ _ queue.jobs
+    (λ row other. ap not other) (none_found (has_number job.0) queue.jobs none)))
 
-pub none_changed : (queue : Queued) (job : JobId) (change : Job → Job) → job_at (core_of queue) job.0 ≡ None
+pub none_changed : (queue : Queued) (job : JobId) (change : Job → Job)
+    → job_at (core_of queue) job.0 ≡ None
     → with_job_changed job change (core_of queue) ≡ core_of queue
-none_changed queue job change none = ap (λ (jobs : List Job). core_with jobs queue.last) (stay queue.jobs (none_found (has_number job.0) queue.jobs none))
+none_changed queue job change none =
+    ap (λ (jobs : List Job). core_with jobs queue.last)
+    (stay queue.jobs (none_found (has_number job.0) queue.jobs none))
   where
-    stay : (jobs : List Job) → AllByRecursion (λ (row : Job). has_number job.0 row ≡ false) jobs → map (changed_at job.0 change) jobs ≡ jobs
+    stay : (jobs : List Job) → AllByRecursion (λ (row : Job). has_number job.0 row ≡ false) jobs
+        → map (changed_at job.0 change) jobs ≡ jobs
     stay [] all = refl
     stay (row ∷ jobs) all = rw (all.0, stay jobs all.1) refl
 
 -- ---- how a job is taken
 
 -- by what the book gives, it is taken as the rules have it
-pub taken_by_rule : (book : Repository) (from : Option ℕ) (source : Option StorageId) (generation : Gen) (now lease : ℕ)
-    → IsGiven book from source generation lease → taken source generation now lease ≡ as_taken book from now
+pub taken_by_rule : (book : Repository) (from : Option ℕ) (source : Option StorageId)
+    (generation : Gen) (now lease : ℕ)
+    → IsGiven book from source generation lease → taken source generation now lease
+    ≡ as_taken book from now
 taken_by_rule book from source generation now lease given = sym (λ i. λ (job : Job). record job {
   source = given.source_is i;
   generation = given.newest_is i;

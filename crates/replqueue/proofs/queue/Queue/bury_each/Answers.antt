@@ -18,13 +18,18 @@ loop-job-preserved c =
     let item = c.job-item.result in
     record {
       jobs = c.remove_all.ensures.jobs
-          ∙ ap (λ (left : List Job). filter (λ (job : Job). not (is_dead job.state && is_for item.repo.0 item.target.0 job)) left) c.loop-job.invariant.jobs
-          ∙ buried_further c.loop-job.job-index c.args.jobs.now c.args.self.now.jobs item c.loop-job-test.true c.job-item.is;
+          ∙ ap (λ (left : List Job). filter
+          (λ (job : Job). not (is_dead job.state && is_for item.repo.0 item.target.0 job)) left)
+          c.loop-job.invariant.jobs
+          ∙ buried_further c.loop-job.job-index c.args.jobs.now c.args.self.now.jobs item
+          c.loop-job-test.true c.job-item.is;
       last = c.remove_all.ensures.last ∙ c.loop-job.invariant.last;
     }
 
 pub returns : goal.returns
 returns c =
     let jobs = c.args.jobs.now in
-    let all : take c.loop-job.job-index jobs ≡ jobs = take_all c.loop-job.job-index jobs (omega (arith, c.loop-job-test.false)) in
-    subst (λ (more : List Job). RemovesBuried more c.args.self.now c.loop-job.self) all c.loop-job.invariant
+    let all : take c.loop-job.job-index jobs ≡ jobs =
+    take_all c.loop-job.job-index jobs (omega (arith, c.loop-job-test.false)) in
+    subst (λ (more : List Job). RemovesBuried more c.args.self.now c.loop-job.self) all
+    c.loop-job.invariant

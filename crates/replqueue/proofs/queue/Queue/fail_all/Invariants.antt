@@ -10,8 +10,11 @@ use Rattle.replqueue.proofs.queue.Queue.fail_all.Given as goal
 -- with a bad end of those that are left, each has had one
 abbrev pub invariant-loop-job : goal.invariant-loop-job
 invariant-loop-job l =
-    core_with (map (ended (passes_from (least_after l.after) (is_stale l.stale.time l.stale.silence))) l.self.jobs) l.self.last
+    core_with (map (ended (passes_from (least_after l.after)
+    (is_stale l.stale.time l.stale.silence))) l.self.jobs) l.self.last
     ≡ without_stale l.stale.time l.stale.silence (core_of l.fn.self)
 
 abbrev pub decreases-loop-job : goal.decreases-loop-job
-decreases-loop-job l = length (filter (passes_from (least_after l.after) (is_stale l.stale.time l.stale.silence)) l.self.jobs)
+decreases-loop-job l =
+    length (filter (passes_from (least_after l.after) (is_stale l.stale.time l.stale.silence))
+    l.self.jobs)

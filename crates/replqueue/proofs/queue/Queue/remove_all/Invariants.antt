@@ -7,7 +7,8 @@ use Rattle.replqueue.proofs.queue.Queue.remove_all.Given as goal
 -- all others are there still
 abbrev pub invariant-loop-job : goal.invariant-loop-job
 invariant-loop-job l = record {
-  jobs : filter (λ (job : Job). not (is_of l.pair job)) l.self.jobs ≡ filter (λ (job : Job). not (is_of l.pair job)) l.fn.self.jobs;
+  jobs : filter (λ (job : Job). not (is_of l.pair job)) l.self.jobs
+      ≡ filter (λ (job : Job). not (is_of l.pair job)) l.fn.self.jobs;
   last : l.self.last ≡ l.fn.self.last;
 }
 

@@ -9,8 +9,12 @@ use Rattle.replqueue.proofs.queue.Queue.stale_numbers.Given as goal
 -- the numbers so far stand before those of the jobs that are left
 abbrev pub invariant-loop-job : goal.invariant-loop-job
 invariant-loop-job l =
-    l.numbers ++ map (λ (job : Job). job.number) (filter (passes_from (least_after l.after) (is_stale l.stale.time l.stale.silence)) l.self.jobs)
+    l.numbers ++ map (λ (job : Job). job.number)
+    (filter (passes_from (least_after l.after) (is_stale l.stale.time l.stale.silence))
+    l.self.jobs)
     ≡ stale_numbers l.stale.time l.stale.silence (core_of l.self)
 
 abbrev pub decreases-loop-job : goal.decreases-loop-job
-decreases-loop-job l = length (filter (passes_from (least_after l.after) (is_stale l.stale.time l.stale.silence)) l.self.jobs)
+decreases-loop-job l =
+    length (filter (passes_from (least_after l.after) (is_stale l.stale.time l.stale.silence))
+    l.self.jobs)

@@ -10,4 +10,5 @@ returns-clause-value c =
 
 pub returns-clause-ascend : goal.returns-clause-ascend
 returns-clause-ascend c =
-    subst AreAscending c.self.view_is (ascending c.self.inside.rows.entries c.self.invariant.numbers c.self.invariant.ascend)
+    subst AreAscending c.self.view_is (ascending c.self.inside.rows.entries c.self.invariant.numbers
+    c.self.invariant.ascend)

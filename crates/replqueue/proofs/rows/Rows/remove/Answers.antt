@@ -6,14 +6,16 @@ use Rattle.replqueue.proofs.rows.Rows.remove.Goals as goal
 
 pub invariant_of-self : goal.invariant_of-self
 invariant_of-self c = record {
-  numbers = rw c.remove.ensures.entries (numbered_removed c.args.number.0 c.self.inside.rows.entries c.self.invariant.numbers);
+  numbers = rw c.remove.ensures.entries (numbered_removed c.args.number.0 c.self.inside.rows.entries
+      c.self.invariant.numbers);
   ascend = c.remove.ensures.ordered;
 }
 
 pub returns-clause-value : goal.returns-clause-value
 returns-clause-value c =
     rw (← c.self.view_is) (ap values_of c.remove.ensures.entries
-    ∙ removed_is c.args.number.0 c.self.inside.rows.entries c.self.invariant.numbers c.self.invariant.ascend)
+    ∙ removed_is c.args.number.0 c.self.inside.rows.entries c.self.invariant.numbers
+    c.self.invariant.ascend)
 
 pub returns-clause-ascend : goal.returns-clause-ascend
 returns-clause-ascend c =

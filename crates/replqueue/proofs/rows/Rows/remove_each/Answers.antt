@@ -16,13 +16,19 @@ loop-job-preserved c =
     let i = c.loop-job.job-index in
     let item = c.job-item.result in
     c.remove.ensures.value
-    ∙ ap (λ (left : List Job). filter (λ (job : Job). not (job.number.0 == item.number.0)) left) c.loop-job.invariant
-    ∙ filter_both (is_among (take i jobs)) (λ (job : Job). job.number.0 == item.number.0) (is_among (take (i + 1) jobs)) c.args.self.now
-    (λ job. list_any_more (λ (other : Job). job.number.0 == other.number.0) jobs i item c.loop-job-test.true
-    ∙ ap (λ (other : Job). is_among (take i jobs) job || (job.number.0 == other.number.0)) (sym c.job-item.is))
+    ∙ ap (λ (left : List Job). filter (λ (job : Job). not (job.number.0 == item.number.0)) left)
+    c.loop-job.invariant
+    ∙ filter_both (is_among (take i jobs)) (λ (job : Job). job.number.0 ==
+    item.number.0) (is_among (take (i + 1) jobs)) c.args.self.now
+    (λ job. list_any_more (λ (other : Job). job.number.0 == other.number.0) jobs i item
+    c.loop-job-test.true
+    ∙ ap (λ (other : Job). is_among (take i jobs) job || (job.number.0 == other.number.0))
+    (sym c.job-item.is))
 
 pub returns : goal.returns
 returns c =
     let jobs = c.args.jobs.now in
-    let all : take c.loop-job.job-index jobs ≡ jobs = take_all c.loop-job.job-index jobs (omega (arith, c.loop-job-test.false)) in
-    c.loop-job.invariant ∙ ap (λ (gone : List Job). filter (λ (job : Job). not (is_among gone job)) c.args.self.now) all
+    let all : take c.loop-job.job-index jobs ≡ jobs =
+    take_all c.loop-job.job-index jobs (omega (arith, c.loop-job-test.false)) in
+    c.loop-job.invariant ∙ ap (λ (gone : List Job). filter (λ (job : Job). not (is_among gone job))
+    c.args.self.now) all

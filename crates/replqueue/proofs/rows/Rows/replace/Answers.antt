@@ -12,7 +12,8 @@ invariant_of-self c =
     let es = c.self.inside.rows.entries in
     elim c.match-get_mut.branch [
       | in-Some w ↦
-          (let is : c.match-get_mut.self-inside.rows.entries ≡ set_value (is_at (nat_cmp c.args.job.number.0)) es c.args.job = search rules in
+          (let is : c.match-get_mut.self-inside.rows.entries
+          ≡ set_value (is_at (nat_cmp c.args.job.number.0)) es c.args.job = search rules in
           rw is (replaced_kept es c.args.job c.self.invariant))
       | in_default w ↦ search rules
     ]
@@ -24,8 +25,10 @@ returns-clause-value c change before found becomes =
     found_job c.args.job.number.0 es c.self.invariant.numbers ∙ rw c.self.view_is found in
     elim c.match-get_mut.branch [
       | in-Some w ↦
-          (let is : c.match-get_mut.self-inside.rows.entries ≡ set_value (is_at (nat_cmp c.args.job.number.0)) es c.args.job = search rules in
-          rw (← c.self.view_is) (ap values_of is ∙ replaced_is es c.args.job change before c.self.invariant there becomes))
+          (let is : c.match-get_mut.self-inside.rows.entries
+          ≡ set_value (is_at (nat_cmp c.args.job.number.0)) es c.args.job = search rules in
+          rw (← c.self.view_is) (ap values_of is
+          ∙ replaced_is es c.args.job change before c.self.invariant there becomes))
       | in_default w ↦
           (let none : lookup (is_at (nat_cmp c.args.job.number.0)) es ≡ None = search rules in
           absurd (let no : Some before ≡ None = sym there ∙ none in cc))

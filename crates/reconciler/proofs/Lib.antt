@@ -1,0 +1,4 @@
+mod Additions
+mod Locks
+mod PlannedLists
+mod StoragesOf

@@ -2,7 +2,7 @@
 use Rattle.std.proofs.Common.{◌≡◌, ◌==◌, ◌⊎◌, ◌<◌, ◌≤◌, ◌++◌, ◌∷◌, [], ℕ, if◌then◌else◌, Bool, true, false, take, List, length, set, slice_get, unwrap_or, Option, None, Some, IfSome, refl, ap, sym, ◌∙◌, subst, ⊎_elim, inl, inr, arith}
 use Rattle.std.specs.Str.{bytes_eq}
 use Rattle.std.proofs.lemmas.Bool.{and_parts}
-use Rattle.std.proofs.lemmas.List.{take-map}
+use Rattle.std.proofs.lemmas.List.{length-append, take-map}
 use Rattle.std.proofs.lemmas.Option.{slice_get_past, slice_get_within}
 use Rattle.px_base.specs.declared.ids.StorageId.{StorageId}
 use Rattle.px_cluster.specs.Book.{Repository, storages_of}
@@ -105,6 +105,7 @@ pub record Comes (paths : Paths) (repositories : List Repository) (room : ℕ) (
   pub first : found core entry.virt entry.path ≡ None
   pub last : number ≡ length repositories
   pub fits : length repositories < room
+  pub few : length repositories < 100000
   pub next : number_at paths entry.virt entry.path ≡ Some (length repositories)
 
 module _ (paths : Paths) (core : Core) (next : Ready) (room : ℕ) (entry : Repository) (number : ℕ)
@@ -121,6 +122,7 @@ module _ (paths : Paths) (core : Core) (next : Ready) (room : ℕ) (entry : Repo
         first = is;
         last = numbered ∙ ap (λ (o : Option ℕ). unwrap_or o (length core.repositories)) is;
         fits = both.0;
+        few = both.2;
         next = both.1;
       })
   by (Some there) is =
@@ -165,6 +167,7 @@ pub record Becomes (paths : Paths) (book : Books) (room : ℕ) (creation : Creat
   pub stands_is : creation.repo.0 < length repositories → set repositories creation.repo.0 creation.entry
       ≡ (with_created (found (core_of book) creation.entry.virt creation.entry.path) creation.entry (core_of book)).repositories
   pub comes_fits : length repositories ≤ creation.repo.0 → length repositories < room
+  pub comes_few : length repositories ≤ creation.repo.0 → length repositories < 100000
   pub comes_found : length repositories ≤ creation.repo.0
       → AreFound paths (repositories ++ creation.entry ∷ [])
   pub comes_is : length repositories ≤ creation.repo.0 → repositories ++ creation.entry ∷ []
@@ -182,22 +185,28 @@ becomes paths book room creation repositories next are is same also fits =
       stands_found = stands-found paths (core_of book) book.ready room creation.entry creation.repo.0 found_now ready_now fits.number fits.comes;
       stands_is = stands-created paths (core_of book) book.ready room creation.entry creation.repo.0 found_now ready_now fits.number fits.comes;
       comes_fits = λ past. (comes_last paths (core_of book) book.ready room creation.entry creation.repo.0 found_now ready_now fits.number fits.comes past).fits;
+      comes_few = λ past. (comes_last paths (core_of book) book.ready room creation.entry creation.repo.0 found_now ready_now fits.number fits.comes past).few;
       comes_found = comes-found paths (core_of book) book.ready room creation.entry creation.repo.0 found_now ready_now fits.number fits.comes;
       comes_is = comes-created paths (core_of book) book.ready room creation.entry creation.repo.0 found_now ready_now fits.number fits.comes;
     })
+
+-- one more is not too many
+pub longer_few : (repositories : List Repository) (entry : Repository) → length repositories < 100000
+    → length (repositories ++ entry ∷ []) ≤ 100000
+longer_few repositories entry few = omega (arith, length-append repositories (entry ∷ []), few)
 
 -- ---- what is made ready
 
 pub made_ready : (old new : Paths) (before now : List Repository) (virt path : List ℕ) (number room : ℕ)
     → AreFound old before → now ≡ before
     → first_of (places_of (is_at_path virt path) before) ≡ None → PutsAt old new virt path number
-    → number ≡ length now → length now < room
+    → number ≡ length now → length now < room → length now < 100000
     → AreFound new now × IsReady (ready.Repository virt path) new now room
-made_ready old new before now virt path number room are same none puts is fits =
+made_ready old new before now virt path number room are same none puts is fits few =
     let found_now = subst (AreFound old) (sym same) are in
     let none_now = subst (λ (rs : List Repository). first_of (places_of (is_at_path virt path) rs) ≡ None) (sym same) none in (
       found_put old new now virt path number found_now puts (none_there now virt path none_now),
-      (fits, number_put old new virt path number puts ∙ ap (λ (n : ℕ). Some n) is),
+      (fits, number_put old new virt path number puts ∙ ap (λ (n : ℕ). Some n) is, few),
     )
 
 -- ---- the storages that are assigned

@@ -91,6 +91,7 @@ ready_after next paths repositories i new room is =
     by (ready.Repository virt path) is = (
       subst (λ (n : ℕ). n < room) (sym stays) is.0,
       is.1 ∙ ap (λ (n : ℕ). Some n) (sym stays),
+      subst (λ (n : ℕ). n < 100000) (sym stays) is.2,
     )
 
 -- no storage has the name

@@ -3,4 +3,5 @@ mod Creations
 mod Found
 mod IndexLemmas
 mod Places
+mod Searching
 mod Storages

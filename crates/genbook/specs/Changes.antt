@@ -1,7 +1,8 @@
 -- What becomes of replicas, as the book is told it.
-use Rattle.std.specs.Prelude.{ℕ, Bool, if◌then◌else◌, List, map, None}
+use Rattle.std.specs.Prelude.{ℕ, ◌<◌, Bool, if◌then◌else◌, List, [], ◌∷◌, map, None}
+use Rattle.std.specs.List.{AllByRecursion}
 use Rattle.px_base.specs.declared.ids.StorageId.{StorageId}
-use Rattle.px_cluster.specs.Book.{Replica, Repository, booked, drawn_for, in_doubt, is_on}
+use Rattle.px_cluster.specs.Book.{Replica, Repository, booked, drawn_for, in_doubt, is_on, with_replicas}
 use Rattle.px_cluster.specs.Casts.{confirmed}
 use Rattle.px_cluster.specs.Creating.{enrolled}
 use Rattle.px_cluster.specs.Numbers.{is_one_of}
@@ -35,6 +36,20 @@ changed_on_each storages change replica =
 -- the replica is assigned, or is not
 abbrev pub with_assigned : Bool → Replica → Replica
 with_assigned assigned replica = record replica { assigned = assigned }
+
+-- the replica is assigned exactly where its storage is one of these
+abbrev pub assigned_among : List ℕ → Replica → Replica
+assigned_among storages replica = with_assigned (is_one_of replica.storage storages) replica
+
+-- exactly these storages are assigned
+abbrev pub assigned_to : List ℕ → Repository → Repository
+assigned_to storages repo = with_replicas (assigned_among storages) repo
+
+-- each number is below those after it
+abbrev pub AreAscending : List ℕ → Type 0
+AreAscending [] = Unit {0}
+AreAscending (number ∷ numbers) =
+    AllByRecursion (λ later. number < later) numbers × AreAscending numbers
 
 -- a repository before its first creation, with these replicas
 abbrev pub unmade_with : List ℕ → List ℕ → List Replica → Repository

@@ -58,14 +58,15 @@ PutsAt old new virt path number = (v p : List ℕ) → number_at new v p
 abbrev pub StaysAt : Paths → Paths → Type 0
 StaysAt old new = (v p : List ℕ) → number_at new v p ≡ number_at old v p
 
--- the repository that is ready to come has its number, and there is room for it
+-- the repository that is ready to come has its number, there is room for it, and with it there are
+-- not too many
 abbrev pub IsReady : Ready → Paths → List Repository → ℕ → Type 0
 IsReady ready.Nothing paths repositories room = Unit {0}
 IsReady (ready.Storage name) paths repositories room = Unit {0}
 IsReady (ready.Repository virt path) paths repositories room = (length repositories < room)
-    × (number_at paths virt path ≡ Some (length repositories))
+    × (number_at paths virt path ≡ Some (length repositories)) × (length repositories < 100000)
 
--- so does the storage that is ready to come
+-- the storage that is ready to come has its number, and there is room for it
 abbrev pub IsNext : Ready → Names → List Storage → ℕ → Type 0
 IsNext ready.Nothing names storages room = Unit {0}
 IsNext (ready.Repository virt path) names storages room = Unit {0}

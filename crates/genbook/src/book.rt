@@ -13,7 +13,7 @@ ghost use Rattle.px_cluster.specs.Refusals.{cause, leases_spent};
 ghost use Rattle.px_cluster.specs.Repairs.{accept_begin_refusal, accept_refusal, accepted, settle_begin_refusal, settle_refusal, settled};
 ghost use Rattle.genbook.specs.Admissions.{Awaits, IsAdmission};
 ghost use Rattle.genbook.specs.Books.{Becomes, Has, IsNamedAs, core_of, on_book, known_as, place_refusal, storage_at};
-ghost use Rattle.genbook.specs.Changes.{numbers_of};
+ghost use Rattle.genbook.specs.Changes.{AreAscending, assigned_to, numbers_of};
 ghost use Rattle.genbook.specs.Creations.{Fits, IsCreation, IsFault, IsReadyFor};
 ghost use Rattle.genbook.specs.declared.ready.Ready.TheVariants as ready;
 ghost use Rattle.genbook.specs.Rules.{BeginsFor, CameLateOn, DecidesOn};
@@ -41,7 +41,8 @@ const MAX_STORAGES: usize = 64;
 /// leaves what is on record, and the change after it takes none. A plan whose change never comes
 /// leaves an entry in an index, which finds nothing.
 ///
-/// The type keeps that names find what they name. It does not keep that a repository has one
+/// The type keeps that names find what they name, and that there are at most as many repositories as a
+/// creation allows. It does not keep that a repository has one
 /// replica for each storage of its virtual storage, by number: a creation and an admission make it
 /// so, `put` takes what it is given, and no other call adds or drops a replica.
 #[derive(Drop)]
@@ -55,7 +56,7 @@ pub struct Book {
 
 impl Model for Book {
     ghost use Rattle.genbook.specs.Books.{Books};
-    ghost use Rattle.std.specs.Prelude.{◌<◌, ◌^◌, length, vec_capacity};
+    ghost use Rattle.std.specs.Prelude.{◌<◌, ◌≤◌, ◌^◌, length, vec_capacity};
     ghost use Rattle.genbook.specs.Index.{AreFound, AreNamed, IsNext, IsReady};
 
     ghost Value = { Books };
@@ -70,7 +71,8 @@ impl Model for Book {
         × AreFound b.paths.entries b.repositories.items
         × IsReady b.ready b.paths.entries b.repositories.items (vec_capacity b.repositories)
         × (length b.storages.items < 2 ^ 32)
-        × IsNext b.ready b.names.entries b.storages.items (vec_capacity b.storages) };
+        × IsNext b.ready b.names.entries b.storages.items (vec_capacity b.storages)
+        × (length b.repositories.items ≤ 100000) };
 }
 
 impl Book {
@@ -379,6 +381,15 @@ impl Book {
         self.repositories[repo.0 as usize].book(storage, booking);
     }
 
+    /// Exactly these storages, which stand by number, are assigned. Takes no memory.
+    pub fn assign(&mut self, repo: RepoId, storages: &[StorageId])
+        requires known { Has self.old repo.0 }
+        requires ascending { AreAscending (numbers_of storages.now) }
+        ensures { Becomes repo.0 (assigned_to (numbers_of storages.now)) self.old self.new }
+    {
+        self.repositories[repo.0 as usize].assign(storages);
+    }
+
     /// What is recorded of a repository is this now, as a copy of it that was changed has it. Takes
     /// no memory.
     pub fn put(&mut self, repo: RepoId, entry: Repository)
@@ -391,7 +402,8 @@ impl Book {
 
     /// What is recorded of a repository.
     pub fn repository(&self, repo: RepoId) -> Option<&Repository>
-        ensures { option_copied result ≡ on_book self.now repo.0 }
+        ensures value { option_copied result ≡ on_book self.now repo.0 }
+        ensures few { IfSome result (λ _. repo.0 < 100000) }
     {
         self.repositories.get(repo.0 as usize)
     }

@@ -7,7 +7,7 @@ ghost use Rattle.px_base.specs.declared.ids.StorageId.{StorageId};
 ghost use Rattle.px_cluster.specs.Book.{Replica as Recorded, is_absent, is_on};
 ghost use Rattle.px_cluster.specs.Creating.{assigned_under};
 ghost use Rattle.px_cluster.specs.Numbers.{is_one_of};
-ghost use Rattle.genbook.specs.Changes.{changed_on, changed_on_each, numbers_of};
+ghost use Rattle.genbook.specs.Changes.{AreAscending, assigned_among, changed_on, changed_on_each, numbers_of};
 
 use crate::{Change, Replica};
 use px_base::{Lease, StorageId};
@@ -69,6 +69,31 @@ pub(crate) fn assign_under(replicas: &mut [Replica], storages: &[StorageId], lea
     for replica in replicas.iter_mut() {
         *replica = assigned_under(*replica, storages, lease);
     }
+}
+
+/// These storages, which stand by number, are assigned. No other one is assigned.
+pub(crate) fn assign(replicas: &mut [Replica], storages: &[StorageId])
+    requires { AreAscending (numbers_of storages.now) }
+    ensures { replicas.new ≡ map (assigned_among (numbers_of storages.now)) replicas.old }
+{
+    for replica in replicas.iter_mut() {
+        *replica = assigned_among(*replica, storages);
+    }
+}
+
+fn assigned_among(replica: Replica, storages: &[StorageId]) -> Replica
+    requires { AreAscending (numbers_of storages.now) }
+    ensures { result ≡ assigned_among (numbers_of storages.now) replica }
+{
+    replica.with_assigned(is_among(replica.storage, storages))
+}
+
+// Whether the storage is one of these, which stand by number.
+fn is_among(storage: StorageId, storages: &[StorageId]) -> bool
+    requires { AreAscending (numbers_of storages.now) }
+    ensures { result ≡ is_one_of storage.0 (numbers_of storages.now) }
+{
+    storages.binary_search(&storage).is_ok()
 }
 
 fn changed_on(replica: Replica, storage: StorageId, change: &Change) -> Replica

@@ -10,12 +10,12 @@ ghost use Rattle.px_cluster.specs.Ids.{gen, storage_number};
 ghost use Rattle.px_cluster.specs.Refusals.{generations_spent, leases_spent};
 ghost use Rattle.px_cluster.specs.Repairs.{accepted, settled};
 ghost use Rattle.genbook.specs.Calls.{accept_cause, accept_draw_cause, doubt_cause, enrol_cause, settle_cause, settle_draw_cause};
-ghost use Rattle.genbook.specs.Changes.{numbers_of, unmade_with};
+ghost use Rattle.genbook.specs.Changes.{AreAscending, assigned_to, numbers_of, unmade_with};
 ghost use Rattle.genbook.specs.Books.{IsNamedAs};
 ghost use Rattle.genbook.specs.Longer.{longer_for, with_longer};
 ghost use Rattle.genbook.specs.Rules.{CameLate, Decides, DrawsForMembers};
 
-use crate::replicas::{are_absent, assign_under, change_on, change_on_each, replica_on};
+use crate::replicas::{are_absent, assign, assign_under, change_on, change_on_each, replica_on};
 use crate::{Change, Longer, Replica};
 use px_base::{Gen, Lease, RepoPath, StorageId, StorageName};
 use px_ops::{Booking, Refusal};
@@ -265,6 +265,14 @@ impl Repository {
         ensures { self.new ≡ with_replica_on storage.0 (booked booking) self.old }
     {
         change_on(&mut self.replicas, storage, &Change::Book(booking));
+    }
+
+    /// Exactly these storages, which stand by number, are assigned. Takes no memory.
+    pub fn assign(&mut self, storages: &[StorageId])
+        requires { AreAscending (numbers_of storages.now) }
+        ensures { self.new ≡ assigned_to (numbers_of storages.now) self.old }
+    {
+        assign(&mut self.replicas, storages);
     }
 
     /// What is booked of the replica on a storage.

@@ -1,1 +1,3 @@
+mod Ascending
+pub mod Choosing
 mod Places

@@ -1,10 +1,11 @@
 -- The storages of replicas that pass a test.
-use Rattle.std.proofs.Common.{arith, ◌≡◌, ◌∷◌, [], ℕ, List, Bool, map, refl, ap, inl, inr}
+use Rattle.std.proofs.Common.{arith, ◌≡◌, ◌∷◌, [], ℕ, List, Bool, map, refl, ap, inl, inr, slice_get}
 use Rattle.std.specs.Prelude.{◌==◌, ◌&&◌, not, filter, find}
 use Rattle.std.specs.List.{list_any}
 use Rattle.std.specs.Option.{option_map}
 use Rattle.std.proofs.lemmas.Bool.{cases_Bool}
 use Rattle.std.proofs.lemmas.Grind.{common_steps}
+use Rattle.std.proofs.lemmas.Option.{slice_get-map}
 use Rattle.px_cluster.specs.Book.{Replica}
 use Rattle.px_cluster.specs.Ids.{storage_id}
 use Rattle.px_cluster.specs.Numbers.{first_of, is_one_of}
@@ -33,6 +34,11 @@ first_place test (replica ∷ replicas) =
       | inl t ↦ rw t refl
       | inr f ↦ rw f (first_place test replicas)
     ]
+
+-- the storage of a place is that of the replica there
+pub place_got : (replicas : List Replica) (place : ℕ)
+    → slice_get (places replicas) place ≡ option_map (λ (replica : Replica). replica.storage) (slice_get replicas place)
+place_got replicas place = slice_get-map (λ (replica : Replica). replica.storage) replicas place
 
 -- a secondary: it passes, and is not on the primary
 abbrev pub is_secondary : (Replica → Bool) → ℕ → Replica → Bool

@@ -1,10 +1,12 @@
-//! The router: who takes part in a push.
+//! The router: who takes part in a push, and which storages are assigned.
 #![tactic(auto)]
 
+mod factor;
 mod hosts;
 mod push_fault;
 mod push_route;
 
+pub use factor::{assignment, may_assign};
 pub use hosts::primary;
 pub use push_fault::PushFault;
 pub use push_route::{PushRoute, may_push, route_push};

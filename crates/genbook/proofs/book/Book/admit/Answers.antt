@@ -1,6 +1,6 @@
-use Rattle.std.proofs.Common.{◌≡◌, ◌<◌, ◌++◌, List, length, map, take, drop, rules, ap, sym, subst, ◌∙◌}
+use Rattle.std.proofs.Common.{◌≡◌, ◌<◌, ◌≤◌, ◌++◌, ℕ, List, length, map, take, drop, rules, ap, sym, subst, ◌∙◌}
 use Rattle.std.specs.Prelude.{vec_capacity}
-use Rattle.std.proofs.lemmas.List.{places}
+use Rattle.std.proofs.lemmas.List.{length-map, places}
 use Rattle.px_cluster.specs.Book.{Repository, Storage}
 use Rattle.px_cluster.specs.Creating.{with_storage}
 use Rattle.genbook.specs.Admissions.{Awaits}
@@ -32,4 +32,5 @@ invariant_of-self c =
       tt,
       few,
       tt,
+      subst (λ (n : ℕ). n ≤ 100000) (sym (ap length is ∙ length-map repositories (with_storage virt (length storages)))) c.self.invariant.5,
     )

@@ -16,4 +16,4 @@ invariant_of-self-2 c =
     let none = subst (λ (b : Books). first_of (places_of (has_name name) b.storages) ≡ None) (sym c.self.view_is) c.requires.new in
     let made = made_next c.self.inside.names.entries c.put_name.new.names.entries c.self.inside.storages.items now name c.len.result
     (vec_capacity c.reserve.new.self) c.self.invariant.0 c.reserve.ensures.items none c.in_ok-put_name.ensures.ok is fits in
-    (made.0, c.self.invariant.1, tt, few, made.1)
+    (made.0, c.self.invariant.1, tt, few, made.1, c.self.invariant.5)

@@ -1,4 +1,5 @@
-use Rattle.std.proofs.Common.{IfSome, slice_get, subst, sym}
+use Rattle.std.proofs.Common.{◌≤◌, ℕ, IfSome, slice_get, subst, sym}
+use Rattle.std.proofs.lemmas.List.{length-set}
 use Rattle.genbook.specs.Books.{Books, IsNamedAs}
 use Rattle.px_cluster.specs.Book.{Repository}
 use Rattle.genbook.proofs.Found.{found_after, ready_after}
@@ -12,4 +13,5 @@ invariant_of-self c = (
   ready_after c.self.inside.ready c.self.inside.paths.entries c.self.inside.repositories.items c.args.repo.0 c.args.entry _ c.self.invariant.2,
   c.self.invariant.3,
   c.self.invariant.4,
+  subst (λ (n : ℕ). n ≤ 100000) (sym (length-set c.self.inside.repositories.items c.args.repo.0 c.args.entry)) c.self.invariant.5,
 )

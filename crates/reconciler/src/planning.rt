@@ -1,6 +1,6 @@
 //! The plan: a job for each replica that lags behind or is one too many.
 
-ghost use Rattle.std.specs.Prelude.{◌≡◌, ◌<◌, ◌^◌, length, IfOk, None, OnOk};
+ghost use Rattle.std.specs.Prelude.{◌≡◌, IfOk, None, OnOk};
 ghost use Rattle.px_cluster.specs.Core.{repository};
 ghost use Rattle.px_cluster.specs.Ids.{repo_number};
 ghost use Rattle.px_cluster.specs.Plan.{all_planned, plan, planned_for, planned_in};
@@ -25,7 +25,6 @@ pub fn plan(
     queue: &Queue,
     only: Option<RepoId>,
 ) -> Result<Items<Job>, AllocError>
-    requires few { length known.now.book.now.repositories < 2 ^ 32 }
     ensures { IfOk result (λ jobs. jobs ≡ plan (core_with known.now queue.now) (repo_number only)) }
 {
     let mut listed = Listed::new(alloc, queue.last());
@@ -39,7 +38,6 @@ pub fn plan(
 
 // Lists what is planned of all repositories.
 fn list_all(listed: &mut Listed, known: &Known<'_>, queue: &Queue) -> Result<(), AllocError>
-    requires few { length known.now.book.now.repositories < 2 ^ 32 }
     ensures { OnOk result (Adds (all_planned (core_with known.now queue.now) None) listed.old
         listed.new) }
 {

@@ -18,7 +18,7 @@ loop-repository-preserved c =
     let start = c.args.listed.now in
     let now = c.loop-repository.listed in
     let new = c.list_for.new.listed in
-    let here : slice_get books number ≡ Some book = sym c.repository.ensures
+    let here : slice_get books number ≡ Some book = sym c.repository.ensures.value
     ∙ ap option_copied c.in-Some.is in
     subst (λ (jobs : List Job). Adds jobs start new) (next_repository core books number book here)
     (both_added start now new (planned_from core 0 (take number books))
@@ -29,7 +29,7 @@ returns c =
     let core = core_with c.args.known.now c.args.queue.now in
     let books = core.repositories in
     let number = c.loop-repository.number in
-    let none : slice_get books number ≡ None = sym c.repository.ensures
+    let none : slice_get books number ≡ None = sym c.repository.ensures.value
     ∙ ap option_copied c.in_default.is in
     subst (λ (each : List Repository). Adds (planned_from core 0 each) c.args.listed.now
     c.loop-repository.listed)

@@ -22,6 +22,7 @@ use Rattle.cluster_form.proofs.Lists.{all_such, bool, other_number, same_number}
 use Rattle.genbook.specs.Books.{Books, core_of}
 use Rattle.genbook.specs.Changes.{numbers_of}
 use Rattle.genbook.specs.Rules.{DrawsForMembers}
+use Rattle.replqueue.specs.Queue.{Queued}
 use Rattle.px_core.specs.Beginning.{IsBeginning, IsPlanned, IsTold, spent}
 use Rattle.px_core.specs.Parts.{core_with, no_reads}
 use Rattle.px_core.specs.declared.pushes.Beginning.{Beginning}
@@ -30,9 +31,9 @@ use Rattle.px_core.proofs.Tables.{reads_set}
 -- ---- the core with the push
 
 module _ (books new : Books) (up : List Bool) (votes : Registry) (last : ℕ)
-    (pushes : List OpenPush) (repo : ℕ) (book : Repository) where
+    (pushes : List OpenPush) (queue : Queued) (repo : ℕ) (book : Repository) where
   abbrev core : Core
-  core = core_with books up votes last pushes
+  core = core_with books up votes last pushes queue
 
   abbrev begins : OpenPush
   begins = beginning core repo book
@@ -44,7 +45,7 @@ module _ (books new : Books) (up : List Bool) (votes : Registry) (last : ℕ)
       → registered ≡ with_registered votes tx (voting_on panel 1)
       → panel ≡ panel_of core begins.members → tx ≡ begins.tx
       → open_ ≡ pushes ++ push ∷ [] → push ≡ begins
-      → core_with new up registered tx.0 open_ ≡ with_begun begins book core
+      → core_with new up registered tx.0 open_ queue ≡ with_begun begins book core
   begun_is entry panel tx push registered open_ put entry_is votes_are panel_is tx_is pushes_are
       push_is =
       let storages : new.storages ≡ books.storages = ap (λ (c : Core). c.storages) put in

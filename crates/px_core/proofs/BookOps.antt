@@ -25,10 +25,12 @@ use Rattle.genbook.specs.Creations.{IsCreation}
 use Rattle.genbook.specs.Health.{Reachable, with_one_down}
 use Rattle.genbook.specs.declared.admission.Admission.{Admission}
 use Rattle.genbook.specs.declared.creation.Creation.{Creation}
+use Rattle.replqueue.specs.Queue.{Queued}
 use Rattle.px_core.specs.Parts.{core_with, no_reads}
 use Rattle.px_core.specs.Served.{IsServed}
 use Rattle.px_core.specs.Sound.{IsSound}
 use Rattle.px_core.specs.Steps.{IsDone}
+use Rattle.px_core.proofs.ByNumbers.{known_by_numbers}
 use Rattle.px_core.proofs.Kept.{kept}
 use Rattle.px_core.proofs.Tables.{reads_set}
 
@@ -56,13 +58,6 @@ reads_added (r ∷ rs) entry = ap (λ ns. 0 ∷ ns) (reads_added rs entry)
 
 -- ---- storages that are known
 
--- .. by the numbers
-known_by : (limit : ℕ) (storages : List StorageId)
-    → AllByRecursion (λ n. n < limit) (numbers_of storages)
-    → AllByRecursion (λ (storage : StorageId). storage.0 < limit) storages
-known_by limit [] all = tt
-known_by limit (storage ∷ storages) all = (all.0, known_by limit storages all.1)
-
 -- those of a virtual storage are
 storages_known : (storages : List Storage) (virt : List ℕ)
     → AllByRecursion (λ n. n < length storages) (storages_of storages virt)
@@ -74,7 +69,7 @@ pub assigned_known : (book new : Books) (virt path : List ℕ) (factor : ℕ) (c
     → IsCreation (core_of book) virt path factor creation → core_of new ≡ core_of book
     → AllByRecursion (λ (storage : StorageId). storage.0 < length new.storages) creation.assigned
 assigned_known book new virt path factor creation is same =
-    known_by (length new.storages) creation.assigned (subst (λ (storages : List Storage).
+    known_by_numbers (length new.storages) creation.assigned (subst (λ (storages : List Storage).
     AllByRecursion (λ n. n < length storages) (numbers_of creation.assigned))
     (sym (ap (λ (c : Core). c.storages) same))
     (subst (AllByRecursion (λ n. n < length book.storages)) (sym is.assigned) assigned))
@@ -107,9 +102,9 @@ replicas_known storages repo dense = by repo.replicas
 -- ---- an admission and a creation
 
 module _ (old mid new : Books) (up : List Bool) (votes : Registry) (last : ℕ)
-    (pushes : List OpenPush) (same : core_of mid ≡ core_of old) where
+    (pushes : List OpenPush) (queue : Queued) (same : core_of mid ≡ core_of old) where
   abbrev before : Core
-  before = core_with old up votes last pushes
+  before = core_with old up votes last pushes queue
 
   -- the storage is on the book, and down
   pub admit_done : (virt name : List ℕ) (admission : Admission) (prepared added : Reachable)
@@ -119,7 +114,7 @@ module _ (old mid new : Books) (up : List Bool) (votes : Registry) (last : ℕ)
       → new.repositories ≡ (admitted admission.virt admission.name (core_of mid)).repositories
       → prepared.up ≡ up → prepared.ready ≡ true → added ≡ with_one_down prepared
       → IsDone before (op.Admit virt name) (reply.Storage admission.storage)
-      (core_with new added.up votes last pushes)
+      (core_with new added.up votes last pushes queue)
   admit_done virt name admission prepared added is none storages_are repositories_are up_is ready
       down =
       let storages : new.storages ≡ (admitted virt name before).storages =
@@ -145,7 +140,7 @@ module _ (old mid new : Books) (up : List Bool) (votes : Registry) (last : ℕ)
   -- the book with the entry of a creation, under the number that is found, or the next one
   create_leads : (at : Option ℕ) (entry : Repository) → new.storages ≡ old.storages
       → new.repositories ≡ (with_created at entry (core_of old)).repositories
-      → core_with new up votes last pushes ≡ with_created at entry before
+      → core_with new up votes last pushes queue ≡ with_created at entry before
   create_leads None entry storages repositories = λ i. record before {
     storages = storages i;
     repositories = repositories i;
@@ -166,7 +161,7 @@ module _ (old mid new : Books) (up : List Bool) (votes : Registry) (last : ℕ)
       → new.storages ≡ mid.storages
       → names ≡ names_of (core_of mid) (numbers_of creation.assigned)
       → IsDone before (op.Create virt path factor)
-      (reply.Created creation.repo creation.lease names) (core_with new up votes last pushes)
+      (reply.Created creation.repo creation.lease names) (core_with new up votes last pushes queue)
   create_done virt path factor creation names is none becomes stay named =
       let storages : new.storages ≡ old.storages = stay ∙ ap (λ (c : Core). c.storages) same in
       let repositories : new.repositories ≡ (created virt path factor (core_of old)).repositories =

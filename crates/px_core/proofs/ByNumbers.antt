@@ -1,7 +1,7 @@
 -- The names of storages, and their voters, by their numbers.
-use Rattle.std.proofs.Common.{◌≡◌, ◌∙◌, ◌==◌, ◌+◌, ℕ, suc, List, [], ◌∷◌, true, false, None, Some, refl, ap, inl, inr, length, map, nat_lt, arith}
+use Rattle.std.proofs.Common.{◌≡◌, ◌∙◌, ◌<◌, ◌==◌, ◌+◌, ℕ, suc, List, [], ◌∷◌, true, false, None, Some, refl, ap, inl, inr, length, map, nat_lt, arith}
 use Rattle.std.specs.Prelude.{cond, position}
-use Rattle.std.specs.List.{position_or_len}
+use Rattle.std.specs.List.{AllByRecursion, position_or_len}
 use Rattle.std.proofs.lemmas.Bool.Decides.{nat_tests}
 use Rattle.std.specs.Option.{option_map}
 use Rattle.px_base.specs.declared.ids.StorageId.{StorageId}
@@ -20,6 +20,14 @@ pub numbers_as_many : (storages : List StorageId)
     → length (numbers_of storages) ≡ length storages
 numbers_as_many [] = refl
 numbers_as_many (storage ∷ storages) = ap suc (numbers_as_many storages)
+
+-- storages are known where their numbers are
+pub known_by_numbers : (count : ℕ) (storages : List StorageId)
+    → AllByRecursion (λ n. n < count) (numbers_of storages)
+    → AllByRecursion (λ (storage : StorageId). storage.0 < count) storages
+known_by_numbers count [] all = tt
+known_by_numbers count (storage ∷ storages) all =
+    (all.0, known_by_numbers count storages all.1)
 
 shifted : (place next count more : ℕ) → next ≡ suc place → more ≡ suc count
     → cond (nat_lt next more) (Some next) None

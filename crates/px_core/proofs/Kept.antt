@@ -2,6 +2,9 @@
 use Rattle.std.proofs.Common.{◌≡◌, ◌≤◌, ◌<◌, ◌+◌, ◌-◌, ◌^◌, ◌&&◌, ◌++◌, ℕ, not, List, [], ◌∷◌, Bool, true, false, Option, None, Some, refl, sym, ap, subst, inl, inr, length, nat_lt, arith}
 use Rattle.std.specs.Option.{option_map}
 use Rattle.std.proofs.lemmas.Bool.Decides.{nat_tests}
+use Rattle.px_ops.specs.declared.job.Job.{Job}
+use Rattle.px_ops.specs.declared.job.JobKind.{JobKind}
+use Rattle.px_ops.specs.declared.job.JobKind.TheVariants.{Update, Delete}
 use Rattle.px_ops.specs.declared.op.Op.{Op}
 use Rattle.px_ops.specs.declared.op.Op.TheVariants as op
 use Rattle.px_ops.specs.declared.refusal.Refusal.{Refusal}
@@ -13,13 +16,15 @@ use Rattle.txmanager.specs.VoterCalls.{after_cast}
 use Rattle.txmanager.specs.Voting.{Voting}
 use Rattle.px_cluster.specs.Book.{Repository, Storage, is_of, storages_of}
 use Rattle.px_cluster.specs.Casts.{booked_by, cast_on, with_cast_booked}
-use Rattle.px_cluster.specs.Core.{Core, OpenPush, empty, push_of, repository, turn_of, voting, with_repository_by}
+use Rattle.px_cluster.specs.Core.{Core, OpenPush, empty, job_at, push_of, repository, turn_of, voting, with_repository_by}
 use Rattle.px_cluster.specs.Creating.{admit_refusal, found, has_name, with_created}
 use Rattle.px_cluster.specs.Ids.{storage_id}
+use Rattle.px_cluster.specs.Jobs.{ended_job, with_end_booked, without_job}
 use Rattle.px_cluster.specs.Numbers.{first_of, places_from, places_of}
 use Rattle.px_cluster.specs.Ops.{left_by, next_core, refusal_of, unless_refused}
 use Rattle.px_cluster.specs.Pushes.{begin_refusal, begun_at, read_only, turn_taken}
 use Rattle.px_cluster.specs.Refusals.{cause, generations_spent, leases_spent}
+use Rattle.px_cluster.specs.Taking.{Drop, Next, PassOver, Take, Taking, dequeued, dequeued_by, next_job, taken_in}
 use Rattle.cluster_form.specs.Form.{IsFormed}
 use Rattle.cluster_form.proofs.LeftKept.{at_first, kept_by_ops}
 use Rattle.cluster_form.proofs.Lists.{bool, both_left, bytes_same}
@@ -107,6 +112,32 @@ same_cast core tx name phase hash None = refl
 same_cast core tx name phase hash (Some old) = same_booked (record core { transactions = _ })
     (push_of core tx) name phase hash old (after_cast name phase hash old)
 
+same_taken : (core : Core) (job : Job) (source : Option ℕ) (now : ℕ) (there : Option Repository)
+    → (taken_in there job source now core).storages ≡ core.storages
+same_taken core job source now None = refl
+same_taken core job source now (Some book) = refl
+
+same_dequeued : (core : Core) (next : Option Next) (now : ℕ)
+    → (dequeued next now core).storages ≡ core.storages
+same_dequeued core None now = refl
+same_dequeued core (Some next) now = by next.taking
+  where
+    by : (taking : Taking) → (dequeued_by next.job taking now core).storages ≡ core.storages
+    by PassOver = refl
+    by Drop = refl
+    by (Take source) = same_taken core next.job source now (repository core next.job.repo.0)
+
+same_ended : (core : Core) (good : Bool) (job : Option Job)
+    → (ended_job good job core).storages ≡ core.storages
+same_ended core good None = refl
+same_ended core true (Some job) = by job.kind
+  where
+    by : (kind : JobKind)
+        → (with_end_booked job kind (without_job job.number core)).storages ≡ core.storages
+    by Update = same_by (without_job job.number core) job.repo.0 _ (repository core job.repo.0)
+    by Delete = refl
+same_ended core false (Some job) = refl
+
 module _ (core : Core) (few : AreFew core) where
   as_before : (new : Core) → new.storages ≡ core.storages → AreFew new
   as_before new same virt =
@@ -134,13 +165,16 @@ module _ (core : Core) (few : AreFew core) where
   few_left (op.Begin repo) served none = as_before (left_by core (op.Begin repo))
       (same_begun core repo.0 (repository core repo.0))
   few_left (op.Finish tx) served none = few
-  few_left (op.Dequeue target now) served none = absurd served
-  few_left (op.Beat job lease now) served none = absurd served
-  few_left (op.Ack job lease good) served none = absurd served
-  few_left (op.Stale now after) served none = absurd served
-  few_left (op.Reconcile only) served none = absurd served
+  few_left (op.Dequeue target now) served none = as_before
+      (left_by core (op.Dequeue target now)) (same_dequeued core (next_job core target.0) now)
+  few_left (op.Beat job lease now) served none = few
+  few_left (op.Ack job lease good) served none = as_before
+      (left_by core (op.Ack job lease good)) (same_ended core good (job_at core job.0))
+  few_left (op.Stale now span) served none = few
+  few_left (op.Reconcile only) served none = few
   few_left (op.RouteRead repo) served none = absurd served
-  few_left (op.SetFactor repo factor) served none = absurd served
+  few_left (op.SetFactor repo factor) served none = as_before
+      (left_by core (op.SetFactor repo factor)) (same_by core repo.0 _ (repository core repo.0))
   few_left (op.AcceptBegin repo storage) served none = absurd served
   few_left (op.Accept repo storage lease) served none = absurd served
   few_left (op.SettleBegin repo storage) served none = absurd served

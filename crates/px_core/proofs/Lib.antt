@@ -12,3 +12,9 @@ mod Planning
 mod Begins
 mod Counts
 mod StorageNames
+mod Queues
+mod JobStorages
+mod Works
+mod BookChanges
+mod Located
+mod Factors

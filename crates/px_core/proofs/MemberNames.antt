@@ -1,4 +1,5 @@
--- The members of a push have distinct names, and are no more than the storages of its virtual storage.
+-- The members of a push have distinct names, and are no more than the storages of its virtual
+-- storage.
 use Rattle.std.proofs.Common.{◌≡◌, ◌<◌, ◌≤◌, ◌+◌, ◌==◌, ◌||◌, ℕ, zero, suc, not, List, [], ◌∷◌, ◌++◌, Bool, true, false, Option, None, Some, refl, sym, ap, inl, inr, filter, map, max, length, slice_get, unwrap_or, arith, ◌∙◌}
 use Rattle.std.specs.List.{AllByRecursion, list_any}
 use Rattle.std.specs.Option.{option_map}
@@ -133,7 +134,8 @@ pub members_fewer : (core : Core) (book : Repository) → IsDense core.storages 
     → length (members core book) ≤ length (storages_of core.storages book.virt)
 members_fewer core book dense =
     let led = led_fewer (hosts core book) book.primary in
-    let named = map_as_many (λ (r : Replica). r.storage) (filter (is_host core book) book.replicas) in
+    let named = map_as_many (λ (r : Replica). r.storage)
+    (filter (is_host core book) book.replicas) in
     let fewer = filter_fewer (is_host core book) book.replicas in
     let all = map_as_many (λ (r : Replica). r.storage) book.replicas in
     let same = ap (λ (xs : List ℕ). length xs) dense in

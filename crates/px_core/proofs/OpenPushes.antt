@@ -29,8 +29,8 @@ finish_leads core tx transactions pushes none gone free =
 
 -- ---- the push of a transaction
 
--- its transaction is that one, its repository is on record, and a generation is left for it as long as
--- it is not decided
+-- its transaction is that one, its repository is on record, and a generation is left for it as long
+-- as it is not decided
 pub record IsOpen (core : Core) (tx : TxId) (push : OpenPush) : Type 0 where
   pub same : push.tx ≡ tx
   pub of_tx : push_of core push.tx ≡ Some push

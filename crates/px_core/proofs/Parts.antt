@@ -6,16 +6,17 @@ use Rattle.px_cluster.specs.Book.{Repository}
 use Rattle.px_cluster.specs.Core.{Core, OpenPush, repository, with_book_changed, with_repository, with_repository_by}
 use Rattle.px_cluster.specs.Ops.{unless_refused}
 use Rattle.genbook.specs.Books.{Becomes, Books, core_of}
+use Rattle.replqueue.specs.Queue.{Queued}
 use Rattle.px_core.specs.Parts.{core_with, no_reads}
 use Rattle.px_core.proofs.Tables.{reads_set}
 
 module _ (old new : Books) (up : List Bool) (transactions : Registry) (last : ℕ)
-    (pushes : List OpenPush) where
+    (pushes : List OpenPush) (queue : Queued) where
   abbrev before : Core
-  before = core_with old up transactions last pushes
+  before = core_with old up transactions last pushes queue
 
   abbrev after_ : Core
-  after_ = core_with new up transactions last pushes
+  after_ = core_with new up transactions last pushes queue
 
   -- another entry in the place of one
   pub put_in : (repo : ℕ) (entry : Repository)
@@ -33,7 +34,8 @@ module _ (old new : Books) (up : List Bool) (transactions : Registry) (last : �
         reads = reads i;
       }
 
-  same_in : core_of new ≡ core_of old → after_ ≡ before
+  -- nothing is seen of it
+  pub same_in : core_of new ≡ core_of old → after_ ≡ before
   same_in is =
       let storages : new.storages ≡ old.storages = ap (λ (c : Core). c.storages) is in
       let repositories : new.repositories ≡ old.repositories =
@@ -55,8 +57,8 @@ module _ (old new : Books) (up : List Bool) (transactions : Registry) (last : �
       by None same = same_in same
       by (Some book) put = put_in repo (change book) put
 
-  -- a call of the book that changes one repository, or refuses by a cause, is the operation that has
-  -- this cause and makes this change
+  -- a call of the book that changes one repository, or refuses by a cause, is the operation that
+  -- has this cause and makes this change
   pub book_leads : {A : Type 0} (repo : ℕ) (change : Repository → Repository)
       (cause : Option Refusal) (result : Result A Refusal)
       → OnOk result (Becomes repo change old new) → OnOk result (cause ≡ None)

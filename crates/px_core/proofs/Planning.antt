@@ -1,12 +1,12 @@
--- What a push that nothing refuses has: its members are known, few, and a panel by the rule, and numbers
--- are left for it.
+-- What a push that nothing refuses has: its members are known, few, and a panel by the rule, and
+-- numbers are left for it.
 use Rattle.std.proofs.Common.{◌≡◌, ◌≤◌, ◌<◌, ◌+◌, ◌==◌, ◌&&◌, ℕ, not, List, [], ◌∷◌, Bool, false, Option, None, Some, sym, ap, subst, inl, inr, filter, length, map, arith, ◌∙◌}
 use Rattle.std.specs.List.{AllByRecursion}
 use Rattle.px_base.specs.declared.ids.StorageId.{StorageId}
 use Rattle.px_ops.specs.declared.refusal.Refusal.{Refusal}
 use Rattle.px_ops.specs.declared.refusal.Refusal.TheVariants as refusal
 use Rattle.voters.specs.Panel.{panel_refusal}
-use Rattle.px_cluster.specs.Book.{Replica, Repository, is_of}
+use Rattle.px_cluster.specs.Book.{Replica, Repository, is_of, storages_where}
 use Rattle.px_cluster.specs.Core.{Core, repository, turn_of}
 use Rattle.px_cluster.specs.Ids.{gen}
 use Rattle.px_cluster.specs.Members.{hosts, is_host, members, panel_of, targets}
@@ -19,20 +19,12 @@ use Rattle.cluster_form.proofs.TurnsKept.{first_holds, no_turn, not_caused}
 use Rattle.genbook.specs.Changes.{numbers_of}
 use Rattle.px_core.specs.Known.{AreKnown}
 use Rattle.px_core.specs.Sound.{IsSound}
-use Rattle.px_core.proofs.ByNumbers.{numbers_as_many}
+use Rattle.px_core.proofs.ByNumbers.{known_by_numbers, numbers_as_many}
 use Rattle.px_core.proofs.MemberNames.{map_as_many, members_fewer}
 use Rattle.px_core.proofs.MemberPanels.{panel_made}
 
--- storages are known where their numbers are
-known_by_numbers : (count : ℕ) (storages : List StorageId)
-    → AllByRecursion (λ n. n < count) (numbers_of storages)
-    → AllByRecursion (λ (storage : StorageId). storage.0 < count) storages
-known_by_numbers count [] all = tt
-known_by_numbers count (storage ∷ storages) all =
-    (all.0, known_by_numbers count storages all.1)
-
 -- what is true of each replica's storage is true of those that pass a test
-of_where : (P : ℕ → Type 0) (test : Replica → Bool) (replicas : List Replica)
+pub of_where : (P : ℕ → Type 0) (test : Replica → Bool) (replicas : List Replica)
     → AllByRecursion P (map (λ (r : Replica). r.storage) replicas)
     → AllByRecursion P (map (λ (r : Replica). r.storage) (filter test replicas))
 of_where P test [] all = tt
@@ -58,6 +50,13 @@ module _ (core : Core) (sound : IsSound core) (repo : ℕ) (book : Repository)
       let same = ap (λ (ns : List ℕ). length ns) dense in
       let few = sound.few book.virt in
       omega (arith, all, same, few)
+
+  -- the storages are known of those replicas that pass a test
+  pub where_known : (test : Replica → Bool) (storages : List StorageId)
+      → numbers_of storages ≡ storages_where test book → AreKnown core.storages storages
+  where_known test storages are = known_by_numbers (length core.storages) storages
+      (subst (AllByRecursion (λ n. n < length core.storages)) (sym are)
+      (of_where (λ n. n < length core.storages) test book.replicas replicas_known))
 
   -- .. and where nothing refuses a push
   module _ (none : begin_refusal core repo (Some book) ≡ None) where
@@ -119,8 +118,5 @@ module _ (core : Core) (sound : IsSound core) (repo : ℕ) (book : Repository)
 
     pub targets_are_known : (storages : List StorageId)
         → numbers_of storages ≡ targets core book → AreKnown core.storages storages
-    targets_are_known storages are = known_by_numbers (length core.storages) storages
-        (subst (AllByRecursion (λ n. n < length core.storages)) (sym are)
-        (of_where (λ n. n < length core.storages)
-        (λ (replica : Replica). replica.assigned && not (is_host core book replica))
-        book.replicas replicas_known))
+    targets_are_known storages are = where_known
+        (λ (replica : Replica). replica.assigned && not (is_host core book replica)) storages are

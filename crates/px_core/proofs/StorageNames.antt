@@ -39,7 +39,8 @@ known_none storages name none = by (first_of (places_of (has_name name) storages
     by (Some place) is =
         let at = first_there (has_name name) 0 storages place is in
         let same : place ≡ at.offset = omega (arith, at.is) in
-        let got : slice_get storages place ≡ Some at.element = ap (slice_get storages) same ∙ at.there in
+        let got : slice_get storages place ≡ Some at.element =
+        ap (slice_get storages) same ∙ at.there in
         let z : Some (storage_id place, at.element.virt) ≡ None =
         sym (ap (option_map (λ (storage : Storage). (storage_id place, storage.virt))) got)
         ∙ ap (with_virtual storages) (sym is) ∙ none in

@@ -34,7 +34,8 @@ module _ (push : OpenPush) (votes : Voting) where
   told_member storage is = by (place_in push.members storage) refl is
     where
       by : (place : Option ℕ) → place_in push.members storage ≡ place
-          → is_committed_in place (slice_get votes.subs 0) ≡ true → is_one_of storage push.members ≡ true
+          → is_committed_in place (slice_get votes.subs 0) ≡ true
+          → is_one_of storage push.members ≡ true
       by None none told = absurd (cc)
       by (Some place) found told = placed push.members storage place found
 

@@ -26,8 +26,10 @@ IsTold core book members_ targets_ begun = begun ≡ record {
   targets = names_of core targets_;
 }
 
--- it is the push that begins by the rule, with what the book then has, its panel, and what is told of it
-pub record IsBeginning (core : Core) (repo : ℕ) (book : Repository) (plan : Beginning) : Type 0 where
+-- it is the push that begins by the rule, with what the book then has, its panel, and what is told
+-- of it
+pub record IsBeginning (core : Core) (repo : ℕ) (book : Repository) (plan : Beginning)
+    : Type 0 where
   pub push : plan.push ≡ beginning core repo book
   pub entry : plan.entry ≡ drawn_for_members (beginning core repo book) book
   pub panel : plan.panel ≡ panel_of core (members core book)

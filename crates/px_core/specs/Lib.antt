@@ -1,6 +1,8 @@
 pub mod Answers
+pub mod Assigning
 pub mod Beginning
 pub mod Counting
+pub mod Ends
 pub mod Faults
 pub mod Few
 pub mod Known
@@ -9,3 +11,4 @@ pub mod Readers
 pub mod Served
 pub mod Sound
 pub mod Steps
+pub mod Work

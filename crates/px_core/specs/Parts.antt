@@ -2,6 +2,7 @@
 use Rattle.std.specs.Prelude.{ℕ, Bool, List, map}
 use Rattle.txmanager.specs.Registry.{Registry}
 use Rattle.genbook.specs.Books.{Books}
+use Rattle.replqueue.specs.Queue.{Queued}
 use Rattle.px_cluster.specs.Book.{Repository}
 use Rattle.px_cluster.specs.Core.{Core, OpenPush, empty}
 
@@ -9,12 +10,14 @@ use Rattle.px_cluster.specs.Core.{Core, OpenPush, empty}
 abbrev pub no_reads : List Repository → List ℕ
 no_reads repositories = map (λ (repo : Repository). 0) repositories
 
--- a book, which storages are up, the transactions, the last number that one was given, and the open
--- pushes; there are no jobs, and no default factors
-abbrev pub core_with : Books → List Bool → Registry → ℕ → List OpenPush → Core
-core_with book up transactions last pushes = record empty {
+-- a book, which storages are up, the transactions, the last number that one was given, the open
+-- pushes, and the queue; there are no default factors
+abbrev pub core_with : Books → List Bool → Registry → ℕ → List OpenPush → Queued → Core
+core_with book up transactions last pushes queue = record empty {
   storages = book.storages;
   repositories = book.repositories;
+  jobs = queue.jobs;
+  last_job = queue.last;
   last_tx = last;
   transactions = transactions;
   pushes = pushes;

@@ -2,20 +2,30 @@
 use Rattle.px_ops.specs.declared.op.Op.{Op}
 use Rattle.px_ops.specs.declared.op.Op.TheVariants as op
 
--- not those on jobs, and none that routes reads, sets factors, or accepts or settles a replica
+-- none that routes reads, or accepts or settles a replica
 abbrev pub IsServed : Op → Type 0
-IsServed (op.Dequeue target now) = ⊥
-IsServed (op.Beat job lease now) = ⊥
-IsServed (op.Ack job lease good) = ⊥
-IsServed (op.Stale now after) = ⊥
-IsServed (op.Reconcile only) = ⊥
 IsServed (op.RouteRead repo) = ⊥
-IsServed (op.SetFactor repo factor) = ⊥
 IsServed (op.AcceptBegin repo storage) = ⊥
 IsServed (op.Accept repo storage lease) = ⊥
 IsServed (op.SettleBegin repo storage) = ⊥
 IsServed (op.Settle repo storage lease last) = ⊥
 IsServed other = Unit {0}
+
+-- those on storages, repositories and jobs
+abbrev pub IsOnBook : Op → Type 0
+IsOnBook (op.Admit virt name) = Unit {0}
+IsOnBook (op.Health storage up) = Unit {0}
+IsOnBook (op.Create virt path factor) = Unit {0}
+IsOnBook (op.Enrol repo storage lease) = Unit {0}
+IsOnBook (op.Dequeue target now) = Unit {0}
+IsOnBook (op.Beat job lease now) = Unit {0}
+IsOnBook (op.Ack job lease good) = Unit {0}
+IsOnBook (op.Stale now after) = Unit {0}
+IsOnBook (op.Reconcile only) = Unit {0}
+IsOnBook (op.SetFactor repo factor) = Unit {0}
+IsOnBook (op.Booked repo) = Unit {0}
+IsOnBook (op.Find virt path) = Unit {0}
+IsOnBook other = ⊥
 
 -- what is answered also where no memory is left
 abbrev pub TakesNone : Op → Type 0
@@ -28,6 +38,8 @@ TakesNone (op.Outcome tx sub) = Unit {0}
 TakesNone (op.Close tx) = Unit {0}
 TakesNone (op.Enrol repo storage lease) = Unit {0}
 TakesNone (op.Finish tx) = Unit {0}
+TakesNone (op.Beat job lease now) = Unit {0}
+TakesNone (op.Ack job lease good) = Unit {0}
 TakesNone (op.Find virt path) = Unit {0}
 TakesNone (op.Holder repo) = Unit {0}
 TakesNone other = ⊥

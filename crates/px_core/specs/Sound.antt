@@ -10,8 +10,8 @@ use Rattle.px_core.specs.Few.{AreFew}
 abbrev pub AreBegun : Core → Type 0
 AreBegun core = AllByRecursion (λ (push : OpenPush). push.begun < 2 ^ 64 - 1) core.pushes
 
--- its data has the form that the rules keep; a generation is left for each push that is not decided;
--- and a virtual storage has at most 64 storages
+-- its data has the form that the rules keep; a generation is left for each push that is not
+-- decided; and a virtual storage has at most 64 storages
 pub record IsSound (core : Core) : Type 0 where
   pub form : IsFormed core
   pub left : AreLeft core

@@ -102,8 +102,8 @@ impl Core {
         }
     }
 
-    /// Nothing refuses to book the empty replica of a storage. Else it is the first of `UnknownRepo`,
-    /// `UnknownStorage`, `LeaseLost` and `NotMaking` that holds.
+    /// Nothing refuses to book the empty replica of a storage. Else it is the first of
+    /// `UnknownRepo`, `UnknownStorage`, `LeaseLost` and `NotMaking` that holds.
     pub fn may_enrol(&self, repo: RepoId, storage: StorageId, lease: Lease) -> Result<(), Refusal>
         ensures accepted { OnOk result (refusal_of self.now (op.Enrol repo storage lease) ≡ None) }
         ensures refused { IfErr result (λ why.

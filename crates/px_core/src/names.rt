@@ -1,16 +1,19 @@
-//! The names of storages, and the panels that they make.
+//! The names of storages, what is told of planned jobs with them, and the panels that they make.
 
-ghost use Rattle.std.specs.Prelude.{◌≡◌, ◌<◌, ◌≤◌, ◌==◌, ◌∷◌, false, length, None, IfOk};
+ghost use Rattle.std.specs.Prelude.{◌≡◌, ◌<◌, ◌≤◌, ◌==◌, ◌∷◌, false, length, map, None, IfOk};
+ghost use Rattle.std.specs.Option.{option_map};
+ghost use Rattle.px_base.specs.declared.ids.StorageId.{StorageId as Numbered};
 ghost use Rattle.px_cluster.specs.Core.{name_of, names_of};
 ghost use Rattle.px_cluster.specs.Members.{panel_of, threshold_for, voters_of};
+ghost use Rattle.px_cluster.specs.Plan.{told_of};
 ghost use Rattle.voters.specs.Panel.{panel_refusal};
 ghost use Rattle.genbook.specs.Books.{core_of};
 ghost use Rattle.genbook.specs.Changes.{numbers_of};
-ghost use Rattle.px_core.specs.Known.{AreKnown};
+ghost use Rattle.px_core.specs.Known.{AreJobsKnown, AreKnown, IsSourceKnown};
 
 use genbook::Book;
 use px_base::{StorageId, StorageName, Voter};
-use px_ops::Names;
+use px_ops::{Job, Names, PlannedJob, PlannedJobs};
 use std::alloc::{AllocError, Global};
 use voters::{Panel, PanelRefusal};
 
@@ -22,6 +25,18 @@ pub(crate) fn name_of(book: &Book, storage: StorageId) -> StorageName
     match book.known_name(storage) {
         Some(name) => name,
         None => unreachable!(),
+    }
+}
+
+/// The name of the storage that a job copies from, if it has one.
+pub(crate) fn source_name(book: &Book, source: Option<StorageId>) -> Option<StorageName>
+    requires { IsSourceKnown book.now.storages source }
+    ensures { result
+        ≡ option_map (λ (id : Numbered). name_of (core_of book.now) id.0) source }
+{
+    match source {
+        Some(source) => Some(name_of(book, source)),
+        None => None,
     }
 }
 
@@ -40,6 +55,33 @@ pub(crate) fn names_of(
         names.push(name_of(book, *storage))?;
     }
     Ok(names)
+}
+
+/// What is told of the jobs of a plan.
+pub(crate) fn jobs_told(alloc: Global, book: &Book, jobs: &[Job]) -> Result<PlannedJobs, AllocError>
+    requires { AreJobsKnown book.now.storages jobs.now }
+    ensures { IfOk result (λ told. told ≡ map (told_of (core_of book.now)) jobs.now) }
+{
+    let mut told = PlannedJobs::new(alloc);
+    for job in jobs {
+        let target = name_of(book, job.target);
+        told.push(job_told(book, job, target))?;
+    }
+    Ok(told)
+}
+
+fn job_told(book: &Book, job: &Job, target: StorageName) -> PlannedJob
+    requires known { IsSourceKnown book.now.storages job.now.source }
+    requires target { target ≡ name_of (core_of book.now) job.now.target.0 }
+    ensures { result ≡ told_of (core_of book.now) job.now }
+{
+    PlannedJob {
+        job: job.number,
+        kind: job.kind,
+        repo: job.repo,
+        target,
+        source: source_name(book, job.source),
+    }
 }
 
 /// The panel of a push of these members, the first of which is the primary.

@@ -44,7 +44,8 @@ pub struct Beginning {
 
 impl Core {
     /// Begins a push, which takes the turn of its repository. Refused are, in this order,
-    /// `UnknownRepo`, `Turn`, `ReadOnly`, `LeasesSpent`, `GenerationsSpent` and `TransactionsSpent`.
+    /// `UnknownRepo`, `Turn`, `ReadOnly`, `LeasesSpent`, `GenerationsSpent` and
+    /// `TransactionsSpent`.
     pub(crate) fn begin(&mut self, alloc: Global, repo: RepoId) -> Result<Reply, Fault>
         ensures { Steps self.old (op.Begin repo) result self.new }
     {
@@ -185,8 +186,8 @@ impl Core {
         })
     }
 
-    /// Ends a push, and gives its turn back. Refused are, in this order, `UnknownTx`, `NotAPush` and
-    /// `StillOpen`.
+    /// Ends a push, and gives its turn back. Refused are, in this order, `UnknownTx`, `NotAPush`
+    /// and `StillOpen`.
     pub(crate) fn finish(&mut self, tx: TxId) -> Reply
         ensures reply { result ≡ reply_of self.old (op.Finish tx) }
         ensures state { self.new ≡ next_core self.old (op.Finish tx) }

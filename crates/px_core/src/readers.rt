@@ -1,6 +1,6 @@
 //! What is read of the core for what is told to nodes. None of it takes memory.
 
-ghost use Rattle.std.specs.Prelude.{◌≡◌};
+ghost use Rattle.std.specs.Prelude.{◌≡◌, ◌<◌, length, IfSome};
 ghost use Rattle.std.specs.Option.{option_copied};
 ghost use Rattle.px_cluster.specs.Core.{push_of};
 ghost use Rattle.px_cluster.specs.Ids.{storage_number};
@@ -21,7 +21,8 @@ impl Core {
 
     /// The path of a repository, where the storage is of its virtual storage.
     pub fn path_on(&self, repo: RepoId, storage: StorageId) -> Option<&RepoPath>
-        ensures { option_copied result ≡ path_on self.now repo.0 storage.0 }
+        ensures path { option_copied result ≡ path_on self.now repo.0 storage.0 }
+        ensures known { IfSome result (λ path. storage.0 < length self.now.storages) }
     {
         let repository = self.book.repository(repo)?;
         match repository.replica(storage) {

@@ -4,13 +4,14 @@ ghost use Rattle.std.specs.Prelude.{◌≡◌};
 ghost use Rattle.px_cluster.specs.Core.{empty};
 
 use genbook::{Book, Health};
+use replqueue::Queue;
 use std::alloc::Global;
 use std::marker::Model;
 use turns::Turns;
 use txmanager::Manager;
 
-/// The core of the router: storages and repositories with what is booked, which storages are up, the
-/// transactions, and the pushes that have a turn.
+/// The core of the router: storages and repositories with what is booked, which storages are up,
+/// the transactions, the pushes that have a turn, and the queue of replication jobs.
 #[derive(Drop)]
 pub struct Core {
     pub(crate) book: Book,
@@ -18,6 +19,7 @@ pub struct Core {
     pub(crate) votes: Manager,
     pub(crate) last: u64,
     pub(crate) turns: Turns,
+    pub(crate) queue: Queue,
 }
 
 impl Model for Core {
@@ -27,9 +29,9 @@ impl Model for Core {
 
     ghost Value = { Known };
 
-    ghost view = { λ c. core_with c.book c.health.up c.votes c.last c.turns };
+    ghost view = { λ c. core_with c.book c.health.up c.votes c.last c.turns c.queue };
 
-    ghost invariant = { λ c. IsSound (core_with c.book c.health.up c.votes c.last c.turns) };
+    ghost invariant = { λ c. IsSound (core_with c.book c.health.up c.votes c.last c.turns c.queue) };
 }
 
 impl Core {
@@ -43,6 +45,7 @@ impl Core {
             votes: Manager::new(alloc),
             last: 0,
             turns: Turns::new(alloc),
+            queue: Queue::new(alloc),
         }
     }
 }

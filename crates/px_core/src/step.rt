@@ -4,7 +4,7 @@ ghost use Rattle.std.specs.Prelude.{◌≡◌, IfOk, IsOk, OnErr, OnOk};
 ghost use Rattle.px_cluster.specs.Core.{Core as Known};
 ghost use Rattle.px_cluster.specs.Ops.{next_core, reply_of};
 ghost use Rattle.px_ops.specs.declared.op.Op.{Op};
-ghost use Rattle.px_core.specs.Served.{IsServed, TakesNone};
+ghost use Rattle.px_core.specs.Served.{IsOnBook, IsServed, TakesNone};
 ghost use Rattle.px_core.specs.Steps.{Steps};
 
 use crate::Core;
@@ -13,9 +13,9 @@ use px_ops::{Op, Reply};
 use std::alloc::{AllocError, Global};
 
 impl Core {
-    /// Does one operation: it is refused, and nothing changes, or it is done as a whole. Where memory
-    /// wants, nothing changes either; all memory that an operation takes is taken before it changes
-    /// anything.
+    /// Does one operation: it is refused, and nothing changes, or it is done as a whole. Where
+    /// memory wants, nothing changes either; all memory that an operation takes is taken before it
+    /// changes anything.
     pub fn step(&mut self, alloc: Global, op: &Op) -> Result<Reply, AllocError>
         requires { IsServed op.now }
         ensures reply { IfOk result (λ reply. reply ≡ reply_of self.old op.now) }
@@ -24,8 +24,6 @@ impl Core {
         ensures sure { TakesNone op.now → IsOk result }
     {
         match op {
-            Op::Admit { virt, name } => told(self.admit(alloc, virt, name)),
-            Op::Health { storage, up } => Ok(self.set_health(*storage, *up)),
             Op::Open {
                 threshold,
                 rounds,
@@ -43,17 +41,38 @@ impl Core {
             Op::Collect { tx, voter, sub } => Ok(self.collect(*tx, voter, *sub)),
             Op::Outcome { tx, sub } => Ok(self.outcome(*tx, *sub)),
             Op::Close { tx } => Ok(self.close(*tx)),
+            Op::Begin { repo } => told(self.begin(alloc, *repo)),
+            Op::Finish { tx } => Ok(self.finish(*tx)),
+            Op::Holder { repo } => Ok(self.holder(*repo)),
+            _ => self.step_on_book(alloc, op),
+        }
+    }
+
+    // Does one operation on the book or on jobs.
+    fn step_on_book(&mut self, alloc: Global, op: &Op) -> Result<Reply, AllocError>
+        requires { IsOnBook op.now }
+        ensures reply { IfOk result (λ reply. reply ≡ reply_of self.old op.now) }
+        ensures state { OnOk result (self.new ≡ next_core self.old op.now) }
+        ensures err { OnErr result (self.new ≡ self.old) }
+        ensures sure { TakesNone op.now → IsOk result }
+    {
+        match op {
+            Op::Admit { virt, name } => told(self.admit(alloc, virt, name)),
+            Op::Health { storage, up } => Ok(self.set_health(*storage, *up)),
             Op::Create { virt, path, factor } => told(self.create(alloc, virt, path, *factor)),
             Op::Enrol {
                 repo,
                 storage,
                 lease,
             } => Ok(self.enrol(*repo, *storage, *lease)),
-            Op::Begin { repo } => told(self.begin(alloc, *repo)),
-            Op::Finish { tx } => Ok(self.finish(*tx)),
+            Op::Dequeue { target, now } => told(self.dequeue(*target, *now)),
+            Op::Beat { job, lease, now } => Ok(self.beat(*job, *lease, *now)),
+            Op::Ack { job, lease, good } => Ok(self.ack(*job, *lease, *good)),
+            Op::Stale { now, after } => self.stale(alloc, *now, *after),
+            Op::Reconcile { only } => self.reconcile(alloc, *only),
+            Op::SetFactor { repo, factor } => told(self.set_factor(alloc, *repo, *factor)),
             Op::Booked { repo } => self.booked(alloc, *repo),
             Op::Find { virt, path } => Ok(self.find(virt, path)),
-            Op::Holder { repo } => Ok(self.holder(*repo)),
             _ => unreachable!(),
         }
     }

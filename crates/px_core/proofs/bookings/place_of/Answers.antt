@@ -8,6 +8,7 @@ use Rattle.px_core.proofs.bookings.place_of.Goals as goal
 
 pub returns : goal.returns
 returns c =
-    position_from_yields_List (λ (member : StorageId). member.0 == c.args.storage.0) _ _ c.position.result c.position.ensures.ran
+    position_from_yields_List (λ (member : StorageId). member.0 == c.args.storage.0) _ _
+    c.position.result c.position.ensures.ran
     (YieldsList-from_slice c.args.members.now (cc)) (λ x b q k. search (rules, tests))
     ∙ place_is c.args.members.now c.args.storage.0

@@ -10,7 +10,9 @@ pub returns : goal.returns
 returns c =
     let storages = c.args.storages.now in
     let name = name_of (core_of c.args.book.now) in
-    let passed : length storages ≤ c.loop-storage.storage-index = omega (arith, c.loop-storage.auto.storage-index-end, c.loop-storage-test.false) in
+    let passed : length storages ≤ c.loop-storage.storage-index =
+    omega (arith, c.loop-storage.auto.storage-index-end, c.loop-storage-test.false) in
     c.loop-storage.invariant
-    ∙ ap (λ (each : List StorageId). map (λ (storage : StorageId). name storage.0) each) (take_all c.loop-storage.storage-index storages passed)
+    ∙ ap (λ (each : List StorageId). map (λ (storage : StorageId). name storage.0) each)
+    (take_all c.loop-storage.storage-index storages passed)
     ∙ map_numbers name storages

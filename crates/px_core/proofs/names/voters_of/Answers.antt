@@ -13,9 +13,13 @@ returns c =
     let others = c.args.secondaries.now in
     let core = core_of c.args.book.now in
     let leader = λ (count : ℕ). voter_with core (max 1 count) c.args.primary.0 in
-    let passed : length others ≤ c.loop-storage.storage-index = omega (arith, c.loop-storage.auto.storage-index-end, c.loop-storage-test.false) in
+    let passed : length others ≤ c.loop-storage.storage-index =
+    omega (arith, c.loop-storage.auto.storage-index-end, c.loop-storage-test.false) in
     c.loop-storage.invariant
-    ∙ ap (λ (each : List StorageId). leader (length others) ∷ map (λ (storage : StorageId). voter_with core 1 storage.0) each)
+    ∙ ap (λ (each : List StorageId). leader (length others)
+    ∷ map (λ (storage : StorageId). voter_with core 1 storage.0) each)
     (take_all c.loop-storage.storage-index others passed)
-    ∙ ap (λ (voters : List Voter). leader (length others) ∷ voters) (map_numbers (voter_with core 1) others)
-    ∙ ap (λ (count : ℕ). leader count ∷ map (voter_with core 1) (numbers_of others)) (sym (numbers_as_many others))
+    ∙ ap (λ (voters : List Voter). leader (length others) ∷ voters)
+    (map_numbers (voter_with core 1) others)
+    ∙ ap (λ (count : ℕ). leader count ∷ map (voter_with core 1) (numbers_of others))
+    (sym (numbers_as_many others))

@@ -14,7 +14,7 @@ use Rattle.px_core.proofs.state.Core.cast_refusal.Goals as goal
 pub plan_cast-requires : goal.plan_cast-requires
 plan_cast-requires c =
     let core = core_with c.self.inside.book c.self.inside.health.up c.self.inside.votes
-    c.self.inside.last c.self.inside.turns in
+    c.self.inside.last c.self.inside.turns c.self.inside.queue in
     let push = c.in-Some.push.now in
     let found : push_of core c.args.tx ≡ Some push = search rules in
     let is = open_push core c.self.invariant c.args.tx push found in
@@ -23,24 +23,26 @@ plan_cast-requires c =
 pub returns-in-Ok : goal.returns-in-Ok
 returns-in-Ok c =
     let core = core_with c.self.inside.book c.self.inside.health.up c.self.inside.votes
-    c.self.inside.last c.self.inside.turns in
+    c.self.inside.last c.self.inside.turns c.self.inside.queue in
     let push = c.in-Some.push.now in
     let found : push_of core c.args.tx ≡ Some push = search rules in
     let is = open_push core c.self.invariant c.args.tx push found in
     let plan = c.in-Ok.field-0 in
     let counted : IsCounted core push c.args.voter.now c.args.phase c.args.hash.now plan =
-    subst (λ (known : Core). IsCounted known push c.args.voter.now c.args.phase c.args.hash.now plan)
-    (sym c.self.view_is) c.in-Ok.ensures.ok in
+    subst (λ (known : Core). IsCounted known push c.args.voter.now c.args.phase c.args.hash.now
+    plan) (sym c.self.view_is) c.in-Ok.ensures.ok in
     let accepted = counted_accepted c.self.inside.book c.self.inside.book c.self.inside.health.up
-    c.self.inside.votes c.self.inside.last c.self.inside.turns c.args.tx c.args.voter.now c.args.phase
+    c.self.inside.votes c.self.inside.last c.self.inside.turns c.self.inside.queue c.args.tx
+    c.args.voter.now c.args.phase
     c.args.hash.now push plan found is.same counted in
     sym (subst (λ (known : Core). refusal_of known
-    (op.Cast c.args.tx c.args.voter.now c.args.phase c.args.hash.now) ≡ None) c.self.view_is accepted)
+    (op.Cast c.args.tx c.args.voter.now c.args.phase c.args.hash.now) ≡ None) c.self.view_is
+    accepted)
 
 pub returns-in-Err-Refused : goal.returns-in-Err-Refused
 returns-in-Err-Refused c =
     let core = core_with c.self.inside.book c.self.inside.health.up c.self.inside.votes
-    c.self.inside.last c.self.inside.turns in
+    c.self.inside.last c.self.inside.turns c.self.inside.queue in
     let push = c.in-Some.push.now in
     let found : push_of core c.args.tx ≡ Some push = search rules in
     let is = open_push core c.self.invariant c.args.tx push found in

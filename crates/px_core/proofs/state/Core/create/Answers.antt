@@ -22,13 +22,15 @@ names_of-requires c =
 pub invariant_of-self-2 : goal.invariant_of-self-2
 invariant_of-self-2 c =
     let inside = c.self.inside in
-    let core = core_with inside.book inside.health.up inside.votes inside.last inside.turns in
+    let core = core_with inside.book inside.health.up inside.votes inside.last inside.turns
+    inside.queue in
     let plan = c.in_ok-creation in
     done_sound core _ (op.Create c.args.virt.now c.args.path.now c.args.factor)
     (reply.Created plan.creation.repo plan.creation.lease c.in_ok-assigned.assigned) tt
     c.self.invariant
     (create_done inside.book c.plan_create.new.self c.create.new.self inside.health.up
-    inside.votes inside.last inside.turns plan.ensures.same c.args.virt.now c.args.path.now
+    inside.votes inside.last inside.turns inside.queue plan.ensures.same c.args.virt.now
+    c.args.path.now
     c.args.factor plan.creation c.in_ok-assigned.assigned plan.ensures.ok plan.ensures.accepted
     c.create.ensures.ok c.create.ensures.storages
     (c.in_ok-assigned.ensures ∙ ap (λ (storages : List StorageId).
@@ -41,10 +43,12 @@ returns c =
     subst (λ (known : Core). IsDone known
     (op.Create c.args.virt.now c.args.path.now c.args.factor)
     (reply.Created plan.creation.repo plan.creation.lease c.in_ok-assigned.assigned)
-    (core_with c.create.new.self inside.health.up inside.votes inside.last inside.turns))
+    (core_with c.create.new.self inside.health.up inside.votes inside.last inside.turns
+    inside.queue))
     c.self.view_is
     (create_done inside.book c.plan_create.new.self c.create.new.self inside.health.up
-    inside.votes inside.last inside.turns plan.ensures.same c.args.virt.now c.args.path.now
+    inside.votes inside.last inside.turns inside.queue plan.ensures.same c.args.virt.now
+    c.args.path.now
     c.args.factor plan.creation c.in_ok-assigned.assigned plan.ensures.ok plan.ensures.accepted
     c.create.ensures.ok c.create.ensures.storages
     (c.in_ok-assigned.ensures ∙ ap (λ (storages : List StorageId).

@@ -15,7 +15,7 @@ use Rattle.px_core.proofs.state.Core.plan_along.Goals as goal
 pub told-requires-clause-known : goal.told-requires-clause-known
 told-requires-clause-known c =
     let core = core_with c.self.inside.book c.self.inside.health.up c.self.inside.votes
-    c.self.inside.last c.self.inside.turns in
+    c.self.inside.last c.self.inside.turns c.self.inside.queue in
     let book = c.args.known.now in
     let repo = c.args.repo.0 in
     let there : repository core repo ≡ Some book = subst (λ (known : Core).
@@ -34,7 +34,7 @@ told-requires-clause-known c =
 pub told-requires-clause-targets : goal.told-requires-clause-targets
 told-requires-clause-targets c =
     let core = core_with c.self.inside.book c.self.inside.health.up c.self.inside.votes
-    c.self.inside.last c.self.inside.turns in
+    c.self.inside.last c.self.inside.turns c.self.inside.queue in
     let book = c.args.known.now in
     let repo = c.args.repo.0 in
     let there : repository core repo ≡ Some book = subst (λ (known : Core).
@@ -53,7 +53,7 @@ told-requires-clause-targets c =
 pub told-requires-clause-lease : goal.told-requires-clause-lease
 told-requires-clause-lease c =
     let core = core_with c.self.inside.book c.self.inside.health.up c.self.inside.votes
-    c.self.inside.last c.self.inside.turns in
+    c.self.inside.last c.self.inside.turns c.self.inside.queue in
     let book = c.args.known.now in
     let repo = c.args.repo.0 in
     let there : repository core repo ≡ Some book = subst (λ (known : Core).
@@ -71,7 +71,7 @@ told-requires-clause-lease c =
 pub told-requires-clause-number : goal.told-requires-clause-number
 told-requires-clause-number c =
     let core = core_with c.self.inside.book c.self.inside.health.up c.self.inside.votes
-    c.self.inside.last c.self.inside.turns in
+    c.self.inside.last c.self.inside.turns c.self.inside.queue in
     let book = c.args.known.now in
     let repo = c.args.repo.0 in
     let there : repository core repo ≡ Some book = subst (λ (known : Core).
@@ -89,7 +89,7 @@ told-requires-clause-number c =
 pub panel_of-requires-clause-known : goal.panel_of-requires-clause-known
 panel_of-requires-clause-known c =
     let core = core_with c.self.inside.book c.self.inside.health.up c.self.inside.votes
-    c.self.inside.last c.self.inside.turns in
+    c.self.inside.last c.self.inside.turns c.self.inside.queue in
     let book = c.args.known.now in
     let repo = c.args.repo.0 in
     let there : repository core repo ≡ Some book = subst (λ (known : Core).
@@ -108,7 +108,7 @@ panel_of-requires-clause-known c =
 pub panel_of-requires-clause-some : goal.panel_of-requires-clause-some
 panel_of-requires-clause-some c =
     let core = core_with c.self.inside.book c.self.inside.health.up c.self.inside.votes
-    c.self.inside.last c.self.inside.turns in
+    c.self.inside.last c.self.inside.turns c.self.inside.queue in
     let book = c.args.known.now in
     let repo = c.args.repo.0 in
     let there : repository core repo ≡ Some book = subst (λ (known : Core).
@@ -127,7 +127,7 @@ panel_of-requires-clause-some c =
 pub panel_of-requires-clause-few : goal.panel_of-requires-clause-few
 panel_of-requires-clause-few c =
     let core = core_with c.self.inside.book c.self.inside.health.up c.self.inside.votes
-    c.self.inside.last c.self.inside.turns in
+    c.self.inside.last c.self.inside.turns c.self.inside.queue in
     let book = c.args.known.now in
     let repo = c.args.repo.0 in
     let there : repository core repo ≡ Some book = subst (λ (known : Core).
@@ -146,7 +146,7 @@ panel_of-requires-clause-few c =
 pub panel_of-requires-clause-lawful : goal.panel_of-requires-clause-lawful
 panel_of-requires-clause-lawful c =
     let core = core_with c.self.inside.book c.self.inside.health.up c.self.inside.votes
-    c.self.inside.last c.self.inside.turns in
+    c.self.inside.last c.self.inside.turns c.self.inside.queue in
     let book = c.args.known.now in
     let repo = c.args.repo.0 in
     let there : repository core repo ≡ Some book = subst (λ (known : Core).
@@ -165,7 +165,7 @@ panel_of-requires-clause-lawful c =
 pub returns : goal.returns
 returns c =
     let core = core_with c.self.inside.book c.self.inside.health.up c.self.inside.votes
-    c.self.inside.last c.self.inside.turns in
+    c.self.inside.last c.self.inside.turns c.self.inside.queue in
     let book = c.args.known.now in
     let repo = c.args.repo.0 in
     let there : repository core repo ≡ Some book = subst (λ (known : Core).
@@ -184,7 +184,8 @@ returns c =
     let told : IsTold core book (numbers_of storages) (numbers_of others) begun =
     subst (λ (each : List StorageId). IsTold core book (numbers_of each) (numbers_of others) begun)
     c.deref.ensures.value (subst (λ (each : List StorageId).
-    IsTold core book (numbers_of c.deref.result.now) (numbers_of each) begun) c.deref-2.ensures.value
+    IsTold core book (numbers_of c.deref.result.now) (numbers_of each) begun)
+    c.deref-2.ensures.value
     c.in_ok-begun.ensures) in
     let panel_is : c.in_ok-panel.panel ≡ panel_of core (numbers_of storages) =
     c.in_ok-panel.ensures ∙ ap (λ (each : List StorageId). panel_of core (numbers_of each))

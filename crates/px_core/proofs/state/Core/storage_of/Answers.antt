@@ -10,5 +10,6 @@ returns-in_err-storage c =
     let none : known_as c.self.inside.book.storages c.args.name.now ≡ None = search rules in
     let unknown = known_none c.self.inside.book.storages c.args.name.now none in
     let here : None ≡ storage_of c.args.self.now c.args.name.now =
-    sym (subst (λ (known : Core). storage_of known c.args.name.now ≡ None) c.self.view_is unknown) in
+    sym (subst (λ (known : Core). storage_of known c.args.name.now ≡ None) c.self.view_is
+    unknown) in
     search (rules, here)

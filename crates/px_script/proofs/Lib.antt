@@ -1,6 +1,7 @@
 pub mod ClusterLines
 pub mod CutLemmas
 pub mod EachLemmas
+pub mod JobLines
 pub mod LineLemmas
 pub mod NameLemmas
 pub mod NumberLemmas

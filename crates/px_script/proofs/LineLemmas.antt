@@ -4,8 +4,9 @@ use Rattle.std.specs.List.{AllByRecursion, join_with_byte, onto_first}
 use Rattle.std.specs.Option.{option_map, option_or}
 use Rattle.std.proofs.lemmas.List.Splits.{join_with_byte-slice_split}
 use Rattle.px_ops.specs.declared.op.Op.{Op}
-use Rattle.px_ops.specs.declared.op.Op.TheVariants.{Admit, Begin, Booked, Cancel, Cast, Close, Collect, Create, Finish, Holder, Open, Outcome, Stop, Withdraw}
+use Rattle.px_ops.specs.declared.op.Op.TheVariants.{Ack, Admit, Beat, Begin, Booked, Cancel, Cast, Close, Collect, Create, Finish, Holder, Open, Outcome, Reconcile, SetFactor, Stale, Stop, Withdraw}
 use Rattle.px_script.specs.ClusterReading.{cluster_of}
+use Rattle.px_script.specs.JobReading.{job_of}
 use Rattle.px_script.specs.LineReading.{FirstTakesMemory, event_of}
 use Rattle.px_script.specs.PushReading.{push_of}
 use Rattle.px_script.specs.Spelling.{AreWordsOf, Asks, IsSilent, IsSpelledOp, MayTakeMemory, Spells}
@@ -15,6 +16,7 @@ use Rattle.px_script.specs.Words.{line_words}
 use Rattle.px_script.specs.declared.event.Event.{Event}
 use Rattle.px_script.specs.declared.event.Event.TheVariants.{Operation}
 use Rattle.px_script.proofs.ClusterLines.{cluster_of-cluster_words, cluster_of-some, cluster_words-whole}
+use Rattle.px_script.proofs.JobLines.{job_of-job_words, job_of-some, job_words-whole}
 use Rattle.px_script.proofs.PushLines.{push_line-whole, push_of-line, push_of-some}
 use Rattle.px_script.proofs.VoteLines.{vote_of-some, vote_of-vote_words, vote_words-whole}
 use Rattle.px_script.proofs.WordLemmas.{IsWhole, line_words-joined, same_words}
@@ -28,7 +30,9 @@ vote_line-whole other words h = absurd h
 words-whole : (event : Event) (words : List (List ℕ)) → AreWordsOf event words → AllByRecursion (IsWhole 32) words
 words-whole event words (inl vote) = vote_line-whole event words vote
 words-whole event words (inr (inl cluster)) = same_words 32 words _ cluster.1 (cluster_words-whole event cluster.0)
-words-whole event words (inr (inr push)) = push_line-whole event words push
+words-whole event words (inr (inr (inl push))) = push_line-whole event words push
+words-whole event words (inr (inr (inr job))) =
+    same_words 32 words _ job.1 (job_words-whole event job.0)
 
 -- what a line on votes asks is read back
 vote_line-read : (event : Event) (words : List (List ℕ)) → IsVoteLine event words → event_of words ≡ Some event
@@ -43,24 +47,34 @@ event_of-words event words (inl vote) = vote_line-read event words vote
 event_of-words event words (inr (inl cluster)) =
     let back = cluster_of-cluster_words event cluster.0 in
     ap event_of (cluster.1 ∙ back.2) ∙ rw (back.3, back.4) refl
-event_of-words event words (inr (inr push)) =
+event_of-words event words (inr (inr (inl push))) =
     let back = push_of-line event words push in
     ap event_of back.2 ∙ rw (back.3, back.4, back.5) refl
+event_of-words event words (inr (inr (inr job))) =
+    let back = job_of-job_words event job.0 in
+    ap event_of (job.1 ∙ back.2) ∙ rw (back.3, back.4, back.5, back.6) refl
 
 -- what is read as an event is its words
 event_of-some : (words : List (List ℕ)) (event : Event) → event_of words ≡ Some event → AreWordsOf event words
 event_of-some [] event is = cc
-event_of-some (first ∷ words) event is = by (vote_of first words) (cluster_of first words) event refl refl is
+event_of-some (first ∷ words) event is =
+    by (vote_of first words) (cluster_of first words) (push_of first words) event refl refl refl is
   where
-    by : (vote : Option Op) (cluster : Option Event) (event : Event) → vote_of first words ≡ vote → cluster_of first words ≡ cluster
-        → option_or (option_map Operation vote) (option_or cluster (push_of first words)) ≡ Some event → AreWordsOf event (first ∷ words)
-    by (Some made) cluster (Operation op) v c is =
+    by : (vote : Option Op) (cluster push : Option Event) (event : Event)
+        → vote_of first words ≡ vote → cluster_of first words ≡ cluster
+        → push_of first words ≡ push
+        → option_or (option_map Operation vote)
+        (option_or cluster (option_or push (job_of first words))) ≡ Some event
+        → AreWordsOf event (first ∷ words)
+    by (Some made) cluster push (Operation op) v c p is =
         let same : made ≡ op = cc in
         let line = vote_of-some first words op (v ∙ ap (λ (o : Op). Some o) same) in
         inl (line.0, sym line.1)
-    by (Some made) cluster other v c is = absurd (cc)
-    by None (Some made) event v c is = inr (inl (cluster_of-some first words event (c ∙ is)))
-    by None None event v c is = inr (inr (push_of-some first words event is))
+    by (Some made) cluster push other v c p is = absurd (cc)
+    by None (Some made) push event v c p is = inr (inl (cluster_of-some first words event (c ∙ is)))
+    by None None (Some made) event v c p is =
+        inr (inr (inl (push_of-some first words event (p ∙ is))))
+    by None None None event v c p is = inr (inr (inr (job_of-some first words event is)))
 
 -- words that are joined and cut give the same event
 event_of-joined : (words : List (List ℕ)) → AllByRecursion (IsWhole 32) words → event_of (line_words (join_with_byte 32 words)) ≡ event_of words
@@ -130,9 +144,15 @@ spelled_op (Booked repo) words are = tt
 spelled_op (Holder repo) words are = tt
 spelled_op (Begin repo) words are = tt
 spelled_op (Finish tx) words are = tt
+spelled_op (Reconcile None) words are = tt
+spelled_op (Ack job held good) words are = tt
+spelled_op (Beat job held now) words are = tt
+spelled_op (Stale now after) words are = tt
+spelled_op (SetFactor repo factor) words are = tt
 spelled_op other words (inl vote) = absurd vote.0
 spelled_op other words (inr (inl cluster)) = absurd cluster.0
-spelled_op other words (inr (inr push)) = absurd push
+spelled_op other words (inr (inr (inl push))) = absurd push
+spelled_op other words (inr (inr (inr job))) = absurd job.0
 
 -- so a line asks for no other operation
 pub asked_op : (op : Op) (line : List ℕ) → Asks (Some (Operation op)) line → IsSpelledOp op

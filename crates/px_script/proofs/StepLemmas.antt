@@ -10,14 +10,16 @@ use Rattle.px_base.specs.Hash.{hash_of, hash_text, IsHash}
 use Rattle.px_base.specs.RepoPath.{IsRepoPath}
 use Rattle.px_base.specs.StorageName.{IsStorageName}
 use Rattle.px_base.specs.declared.hash.Hash.{Hash}
+use Rattle.px_base.specs.declared.ids.JobId.{JobId}
 use Rattle.px_base.specs.declared.ids.RepoId.{RepoId}
 use Rattle.px_base.specs.declared.ids.TxId.{TxId}
 use Rattle.px_base.specs.declared.phase.Phase.{Phase}
 use Rattle.px_base.proofs.HexText.{hash_of-some}
 use Rattle.px_ops.specs.VoteTexts.{phase_word}
 use Rattle.px_script.specs.ClusterSpelling.{health_word}
+use Rattle.px_script.specs.JobSpelling.{IsLawfulWork}
 use Rattle.px_script.specs.Names.{path_of}
-use Rattle.px_script.specs.Reading.{repo_of, tx_name_of, tx_of}
+use Rattle.px_script.specs.Reading.{job_lease_of, repo_of, tx_name_of, tx_of}
 use Rattle.px_script.specs.Words.{end_of, first_of, health_of, lease_of, name_of, number_of, phase_of, small_of}
 use Rattle.px_script.proofs.NameLemmas.{name_of-some, path_of-some, whole-name}
 use Rattle.px_script.proofs.NumberLemmas.{lease_of-some, number_of-some, small_of-some, whole-decimal}
@@ -133,6 +135,19 @@ only_tx_and_name words at is =
     let last = end_step (drop 1 second) _ at storage.3 in
     subst (λ (a : TxId × List ℕ). (a.0.0 < 2 ^ 64) × IsStorageName a.1 × (words ≡ decimal a.0.0 ∷ a.1 ∷ [])) last.1
     (number.1, storage.1, cc (number.2, storage.2, last.0))
+
+-- what is read as a job and a lease is their digits
+pub only_job_and_lease : (words : List (List ℕ)) (work : JobId × ℕ)
+    → job_lease_of words ≡ Some work
+    → IsLawfulWork work.0 work.1 × (words ≡ decimal work.0.0 ∷ decimal work.1 ∷ [])
+only_job_and_lease words work is =
+    let number = number_step words _ work is in
+    let second = drop 1 words in
+    let held = lease_step second _ work number.3 in
+    let last = end_step (drop 1 second) _ work held.3 in
+    subst
+    (λ (w : JobId × ℕ). IsLawfulWork w.0 w.1 × (words ≡ decimal w.0.0 ∷ decimal w.1 ∷ [])) last.1
+    ((number.1, held.1), cc (number.2, held.2, last.0))
 
 -- a line of something that is read of its words, and made an event
 pub made_line : {A E : Type 0} (IsLine : List (List ℕ) → E → Type 0) (text : List ℕ) (make : A → E) (read : List (List ℕ) → Option A)

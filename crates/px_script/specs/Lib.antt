@@ -1,5 +1,7 @@
 pub mod ClusterReading
 pub mod ClusterSpelling
+pub mod JobReading
+pub mod JobSpelling
 pub mod LineReading
 pub mod Names
 pub mod PushReading

@@ -1,8 +1,9 @@
 -- How the reader goes from word to word. The rule of the lines stands in Spelling.
 use Rattle.std.specs.Prelude.{ℕ, List, drop, Option, Some, option_and_then}
+use Rattle.px_base.specs.declared.ids.JobId.{JobId}
 use Rattle.px_base.specs.declared.ids.RepoId.{RepoId}
 use Rattle.px_base.specs.declared.ids.TxId.{TxId}
-use Rattle.px_script.specs.Words.{end_of, first_of, name_of, number_of, small_of}
+use Rattle.px_script.specs.Words.{end_of, first_of, lease_of, name_of, number_of, small_of}
 
 -- a reading of the first word, and one of the rest that knows what was read
 abbrev pub and_then : {A B : Type 0} → (List ℕ → Option A) → List (List ℕ)
@@ -22,6 +23,12 @@ abbrev pub tx_name_of : List (List ℕ) → Option (TxId × List ℕ)
 tx_name_of words =
     and_then number_of words (λ tx words.
     and_then name_of words (λ name words. at_end (record { 0 = tx }, name) words))
+
+-- a job and a lease, and no more
+abbrev pub job_lease_of : List (List ℕ) → Option (JobId × ℕ)
+job_lease_of words =
+    and_then number_of words (λ job words.
+    and_then lease_of words (λ lease words. at_end (record { 0 = job }, lease) words))
 
 -- a repository, and no more
 abbrev pub repo_of : List (List ℕ) → Option RepoId

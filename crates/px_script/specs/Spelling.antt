@@ -2,8 +2,9 @@
 use Rattle.std.specs.Prelude.{◌≡◌, ◌⊎◌, ℕ, List, [], ◌∷◌, ◌++◌, Option, Some, None, codes, ⊤}
 use Rattle.std.specs.List.{join_with_byte}
 use Rattle.px_ops.specs.declared.op.Op.{Op}
-use Rattle.px_ops.specs.declared.op.Op.TheVariants.{Admit, Begin, Booked, Cancel, Cast, Close, Collect, Create, Finish, Holder, Open, Outcome, Stop, Withdraw}
+use Rattle.px_ops.specs.declared.op.Op.TheVariants.{Ack, Admit, Beat, Begin, Booked, Cancel, Cast, Close, Collect, Create, Finish, Holder, Open, Outcome, Reconcile, SetFactor, Stale, Stop, Withdraw}
 use Rattle.px_script.specs.ClusterSpelling.{IsClusterLine}
+use Rattle.px_script.specs.JobSpelling.{IsJobLine}
 use Rattle.px_script.specs.PushSpelling.{IsPushLine}
 use Rattle.px_script.specs.VoteSpelling.{IsVoteLine}
 use Rattle.px_script.specs.declared.event.Event.{Event}
@@ -15,6 +16,7 @@ use Rattle.px_script.specs.declared.script_line.ScriptLine.TheVariants as answer
 abbrev pub AreWordsOf : Event → List (List ℕ) → Type 0
 AreWordsOf event words =
     IsVoteLine event words ⊎ IsClusterLine event words ⊎ IsPushLine event words
+    ⊎ IsJobLine event words
 
 -- the line asks for the event: words of it, with one space between each two
 pub record Spells (event : Event) (line : List ℕ) : Type 0 where
@@ -22,7 +24,8 @@ pub record Spells (event : Event) (line : List ℕ) : Type 0 where
   pub spelled : AreWordsOf event words
   pub written : line ≡ join_with_byte 32 words
 
--- the operations that lines spell: they name no storage by its number, and no moment
+-- the operations that lines spell: they name no storage by its number, and a plan of jobs that they
+-- ask for is one for all repositories
 abbrev pub IsSpelledOp : Op → Type 0
 IsSpelledOp (Open threshold rounds voters) = ⊤
 IsSpelledOp (Cast tx voter phase hash) = ⊤
@@ -38,6 +41,11 @@ IsSpelledOp (Booked repo) = ⊤
 IsSpelledOp (Holder repo) = ⊤
 IsSpelledOp (Begin repo) = ⊤
 IsSpelledOp (Finish tx) = ⊤
+IsSpelledOp (Reconcile None) = ⊤
+IsSpelledOp (Ack job lease good) = ⊤
+IsSpelledOp (Beat job lease now) = ⊤
+IsSpelledOp (Stale now after) = ⊤
+IsSpelledOp (SetFactor repo factor) = ⊤
 IsSpelledOp other = ⊥
 
 -- an empty line, or one that begins with '#'

@@ -1,6 +1,6 @@
 //! What a line of a script may ask for.
 
-use px_base::{Lease, Push, RepoId, StorageName, TxId};
+use px_base::{JobId, Lease, Push, RepoId, StorageName, TxId};
 use px_ops::Op;
 
 /// What a line of a script asks for. A line names a storage by its name, and only a world that has
@@ -64,5 +64,33 @@ pub enum Event {
         name: StorageName,
         /// The repository.
         repo: RepoId,
+    },
+    /// Takes the next job of a storage.
+    Take {
+        /// The storage whose replica the job is to change.
+        name: StorageName,
+        /// The moment, in the unit that all moments have.
+        now: u64,
+    },
+    /// A snapshot of the source of a job is taken, and kept for its target.
+    Snapshot {
+        /// The job.
+        job: JobId,
+        /// The lease under which a worker took it.
+        lease: Lease,
+    },
+    /// The target of a job is to become as the snapshot that is kept for it.
+    Apply {
+        /// The job.
+        job: JobId,
+        /// The lease under which a worker took it.
+        lease: Lease,
+    },
+    /// The target of a job is to remove its replica.
+    Remove {
+        /// The job.
+        job: JobId,
+        /// The lease under which a worker took it.
+        lease: Lease,
     },
 }

@@ -10,8 +10,8 @@ pub fn no_line_asks_two()
     ensures { (a b : Option Event) (line : List ℕ) → Asks a line → Asks b line → a ≡ b }
 {}
 
-/// A law: the operations that lines ask for are those that name no storage by its number, and no
-/// moment.
+/// A law: the operations that lines ask for are those that name no storage by its number, and a plan
+/// of jobs that they ask for is one for all repositories.
 pub fn lines_ask_for_spelled_operations()
     ensures { (op : Op) (line : List ℕ) → Asks (Some (Event.Operation op)) line → IsSpelledOp op }
 {}

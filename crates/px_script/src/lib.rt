@@ -1,12 +1,13 @@
 //! The lines of a script: the events that they ask for, how each is spelled, and the reader of a
 //! line. A family of lines has one file of readers, one in specs/ of how its lines are spelled and one
 //! of what is read, and one in proofs/. The families are the lines on votes, those on storages and
-//! repositories, and those on pushes.
+//! repositories, those on pushes, and those on replication jobs.
 #![tactic(auto)]
 
 mod clusters;
 mod cut;
 mod event;
+mod jobs;
 mod laws;
 mod line_words;
 mod number;

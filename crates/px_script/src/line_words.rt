@@ -3,13 +3,13 @@
 ghost use Rattle.std.specs.Prelude.{◌≡◌, ◌∷◌, [], IfNone, IfOk, IfSome, bytes_eq, drop};
 ghost use Rattle.px_base.specs.Hash.{hash_of};
 ghost use Rattle.px_script.specs.Names.{path_of, ref_of};
-ghost use Rattle.px_script.specs.Reading.{repo_of, tx_name_of, tx_of};
+ghost use Rattle.px_script.specs.Reading.{job_lease_of, repo_of, tx_name_of, tx_of};
 ghost use Rattle.px_script.specs.Words.{end_of, first_of, health_of, lease_of, line_words, name_of};
 ghost use Rattle.px_script.specs.Words.{number_of, phase_of, small_of};
 
 use crate::cut::cut_at;
 use crate::number::{read_number, read_small};
-use px_base::{Hash, Lease, NameFault, Phase, RefName, RepoId, RepoPath, StorageName, TxId};
+use px_base::{Hash, JobId, Lease, NameFault, Phase, RefName, RepoId, RepoPath, StorageName, TxId};
 use std::alloc::{AllocError, Global};
 use std::marker::Model;
 
@@ -154,6 +154,17 @@ impl<'a> LineWords<'a> {
         let name = self.name()?;
         self.end()?;
         Some((tx, name))
+    }
+
+    /// All that is left, as a job and a lease.
+    pub fn only_job_and_lease(&mut self) -> Option<(JobId, Lease)>
+        ensures value { result ≡ job_lease_of self.old }
+        ensures rest { IfSome result (λ work. self.new ≡ []) }
+    {
+        let job = JobId(self.number()?);
+        let lease = self.lease()?;
+        self.end()?;
+        Some((job, lease))
     }
 
     /// All that is left, as a repository.

@@ -6,6 +6,7 @@ ghost use Rattle.px_script.specs.Spelling.{TakesMemory, IsSilent, Reads};
 ghost use Rattle.px_script.specs.Words.{line_words};
 
 use crate::clusters::read_cluster;
+use crate::jobs::read_job;
 use crate::line_words::LineWords;
 use crate::pushes::read_push;
 use crate::votes::read_vote;
@@ -38,7 +39,10 @@ fn read_behind(
     if let Some(event) = read_cluster(alloc, first, &mut words.copy())? {
         return Ok(Some(event));
     }
-    read_push(alloc, first, words)
+    if let Some(event) = read_push(alloc, first, &mut words.copy())? {
+        return Ok(Some(event));
+    }
+    Ok(read_job(first, words))
 }
 
 // The event of a line that is not silent.

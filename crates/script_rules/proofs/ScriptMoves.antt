@@ -104,6 +104,14 @@ hands_as core (script.Abort tx name) =
     none_handed (script.Abort tx name) name _ (storage_named core name) (λ storage. refl)
 hands_as core (script.Refs name repo) =
     none_handed (script.Refs name repo) name _ (storage_named core name) (λ storage. refl)
+hands_as core (script.Take name now) =
+    none_handed (script.Take name now) name _ (storage_named core name) (λ storage. refl)
+hands_as core (script.Snapshot job lease) =
+    λ handed is. absurd (let z : None ≡ Some handed = is in cc)
+hands_as core (script.Apply job lease) =
+    λ handed is. absurd (let z : None ≡ Some handed = is in cc)
+hands_as core (script.Remove job lease) =
+    λ handed is. absurd (let z : None ≡ Some handed = is in cc)
 
 -- it happens, or nothing does
 leads_by : (old new : Cluster) (event : Event) (asked : Result Happening Refusal) (answer : Answer)

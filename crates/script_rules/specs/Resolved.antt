@@ -39,3 +39,8 @@ resolved core (script.Prepare tx name push) =
 resolved core (script.Commit tx name) = at_named core name (λ storage. cluster.Commit tx storage)
 resolved core (script.Abort tx name) = at_named core name (λ storage. cluster.Abort tx storage)
 resolved core (script.Refs name repo) = at_named core name (λ storage. cluster.Refs storage repo.0)
+resolved core (script.Take name now) =
+    at_named core name (λ storage. cluster.Asks (op.Dequeue (storage_id storage) now))
+resolved core (script.Snapshot job lease) = Ok (cluster.TakeSnapshot job.0 lease)
+resolved core (script.Apply job lease) = Ok (cluster.Apply job.0 lease)
+resolved core (script.Remove job lease) = Ok (cluster.Remove job.0 lease)

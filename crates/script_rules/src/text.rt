@@ -2,9 +2,10 @@
 
 ghost use Rattle.std.specs.Prelude.{◌≡◌, ◌++◌, ◌∷◌, OnOk};
 ghost use Rattle.px_ops.specs.BookingTexts.{each_after_space};
-ghost use Rattle.script_rules.specs.Texts.{ref_text, text_of};
+ghost use Rattle.script_rules.specs.Texts.{ref_text, snapshot_text, text_of};
 
 use crate::Answer;
+use itoa::Buffer;
 use px_base::{Bytes, Hash, RefName};
 use px_ops::add_reply;
 use std::alloc::AllocError;
@@ -29,6 +30,17 @@ fn add_ref(text: &mut Bytes, name: &RefName, id: &Hash) -> Result<(), AllocError
     text.extend_from_slice(&id.text())
 }
 
+// Adds how many references and objects a snapshot has.
+fn add_snapshot(text: &mut Bytes, refs: u64, objects: u64) -> Result<(), AllocError>
+    ensures { OnOk result (text.new ≡ text.old ++ snapshot_text refs objects) }
+{
+    let mut digits = Buffer::new();
+    text.extend_from_slice(b"snapshot ")?;
+    text.extend_from_slice(digits.format(refs).as_bytes())?;
+    text.push(b' ')?;
+    text.extend_from_slice(digits.format(objects).as_bytes())
+}
+
 /// Adds the line that is printed of an answer, with its line feed. Where memory wants, a part of it may
 /// stand there.
 pub fn add_line(text: &mut Bytes, answer: &Answer) -> Result<(), AllocError>
@@ -45,6 +57,7 @@ pub fn add_line(text: &mut Bytes, answer: &Answer) -> Result<(), AllocError>
             text.extend_from_slice(b"refs")?;
             add_each_ref(text, refs.as_slice())?;
         }
+        Answer::Snapshot { refs, objects } => add_snapshot(text, *refs, *objects)?,
     }
     text.push(b'\n')
 }

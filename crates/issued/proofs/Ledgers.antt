@@ -33,7 +33,10 @@ compare_test a b =
     elim (cases_Bool (b == a)) [
       | inl t ↦ subst (λ (n : ℕ). is_eq (nat_cmp a n) ≡ (n == a)) (sym (same_number b a t))
           ((eq_by_cmp_equiv nat_cmp_total).refl a ∙ sym (same_self a))
-      | inr f ↦ false_from_ne_true _ (λ alike. let differ : (a == a) ≡ false = subst (λ (n : ℕ). (n == a) ≡ false) (sym (nat_cmp-IsAntisymmetric a b ((Equal-is (nat_cmp a b)).0 alike))) f in
+      | inr f ↦ false_from_ne_true _ (λ alike.
+          let differ : (a == a) ≡ false =
+          subst (λ (n : ℕ). (n == a) ≡ false)
+          (sym (nat_cmp-IsAntisymmetric a b ((Equal-is (nat_cmp a b)).0 alike))) f in
           absurd (let no : true ≡ false = sym (same_self a) ∙ differ in cc)) ∙ sym f
     ]
 
@@ -41,7 +44,9 @@ flipped : (a b : ℕ) → (a == b) ≡ (b == a)
 flipped a b =
     elim (cases_Bool (a == b)) [
       | inl t ↦ t ∙ sym ((Decides-eqb b a).1 (sym (same_number a b t)))
-      | inr f ↦ f ∙ sym (false_from_ne_true _ (λ t. let differ : (a == a) ≡ false = subst (λ (n : ℕ). (a == n) ≡ false) (same_number b a t) f in
+      | inr f ↦ f ∙ sym (false_from_ne_true _ (λ t.
+          let differ : (a == a) ≡ false =
+          subst (λ (n : ℕ). (a == n) ≡ false) (same_number b a t) f in
           absurd (let no : true ≡ false = sym (same_self a) ∙ differ in cc)))
     ]
 
@@ -50,10 +55,13 @@ grouped true b c = refl
 grouped false b c = refl
 
 -- a draw is this one where each of its numbers is
-same_test : (a b c r s l : ℕ) → is_draw (draw_of a b c) (draw_of r s l) ≡ ((r == a) && (s == b) && (l == c))
+same_test : (a b c r s l : ℕ) → is_draw (draw_of a b c) (draw_of r s l)
+    ≡ ((r == a) && (s == b) && (l == c))
 same_test a b c r s l =
-    sym (both_tied (r == a) ((s == b) && (l == c)) (nat_cmp a r) (ordering_then (nat_cmp b s) (nat_cmp c l)) (sym (compare_test a r))
-    (both_tied (s == b) (l == c) (nat_cmp b s) (nat_cmp c l) (sym (compare_test b s)) (sym (compare_test c l))))
+    sym (both_tied (r == a) ((s == b) && (l == c)) (nat_cmp a r)
+    (ordering_then (nat_cmp b s) (nat_cmp c l)) (sym (compare_test a r))
+    (both_tied (s == b) (l == c) (nat_cmp b s) (nat_cmp c l) (sym (compare_test b s))
+    (sym (compare_test c l))))
     ∙ grouped (r == a) (s == b) (l == c)
 
 both : (a b : Bool) → (a && b) ≡ true → (a ≡ true) × (b ≡ true)
@@ -86,10 +94,13 @@ module _ (ledger : Ledger) (repo storage lease : ℕ) where
   -- what becomes of the purpose that stands there
   pub with_purpose-changed : (change : Purpose → Purpose)
       → with_purpose ledger repo storage lease (change (ledger repo storage lease))
-      ≡ with_purposes ledger repo (λ other. other == storage) lease (λ other purpose. change purpose)
+      ≡ with_purposes ledger repo (λ other. other == storage) lease
+      (λ other purpose. change purpose)
   with_purpose-changed change = fun_ext (λ r. fun_ext (λ s. fun_ext (λ l.
       elim (cases_Bool ((r == repo) && (s == storage) && (l == lease))) [
-        | inl t ↦ rw t (here (λ r s l. change (ledger repo storage lease) ≡ change (ledger r s l)) refl r s l t)
+        | inl t ↦ rw t
+            (here (λ r s l. change (ledger repo storage lease) ≡ change (ledger r s l)) refl
+            r s l t)
         | inr f ↦ rw f refl
       ])))
 
@@ -110,39 +121,46 @@ module _ (ledger : Ledger) (repo lease : ℕ) (purpose : Purpose) where
   -- at one more
   pub written_further : (first later : ℕ → Bool) (storage : ℕ)
       → ((s : ℕ) → later s ≡ (first s || (s == storage)))
-      → with_purpose (with_purposes ledger repo first lease (λ storage old. purpose)) repo storage lease purpose
+      → with_purpose (with_purposes ledger repo first lease (λ storage old. purpose)) repo storage
+      lease purpose
       ≡ with_purposes ledger repo later lease (λ storage old. purpose)
   written_further first later storage is = fun_ext (λ r. fun_ext (λ s. fun_ext (λ l.
       rw (is s) (joins (r == repo) (first s) (s == storage) (l == lease) (ledger r s l)))))
 
 -- ---- what is kept of one draw
 
-module _ (draw : Draw) (kept : Option Kept) (old new : Draws) (keeps : Keeps draw kept old new) where
-  inside : (b : Bool) (room : Option (Option Kept)) → purpose_of (option_flatten (cond b (Some kept) room))
-      ≡ cond b (purpose_of kept) (purpose_of (option_flatten room))
-  inside true room = refl
-  inside false room = refl
+module _ (draw : Draw) (kept : Option Kept) (old new : Draws) (keeps : Keeps draw kept old new)
+  where
+    inside : (b : Bool) (room : Option (Option Kept))
+        → purpose_of (option_flatten (cond b (Some kept) room))
+        ≡ cond b (purpose_of kept) (purpose_of (option_flatten room))
+    inside true room = refl
+    inside false room = refl
 
-  -- it is what the lease was drawn for there
-  pub ledger_of-kept : ledger_of new ≡ with_purpose (ledger_of old) draw.repo.0 draw.storage.0 draw.lease (purpose_of kept)
-  ledger_of-kept = fun_ext (λ r. fun_ext (λ s. fun_ext (λ l.
-      ap (λ room. purpose_of (option_flatten room)) (keeps (draw_of r s l))
-      ∙ inside (is_draw draw (draw_of r s l)) (room_at old (draw_of r s l))
-      ∙ ap (λ b. cond b (purpose_of kept) (ledger_of old r s l)) (same_test draw.repo.0 draw.storage.0 draw.lease r s l))))
+    -- it is what the lease was drawn for there
+    pub ledger_of-kept : ledger_of new
+        ≡ with_purpose (ledger_of old) draw.repo.0 draw.storage.0 draw.lease (purpose_of kept)
+    ledger_of-kept = fun_ext (λ r. fun_ext (λ s. fun_ext (λ l.
+        ap (λ room. purpose_of (option_flatten room)) (keeps (draw_of r s l))
+        ∙ inside (is_draw draw (draw_of r s l)) (room_at old (draw_of r s l))
+        ∙ ap (λ b. cond b (purpose_of kept) (ledger_of old r s l))
+        (same_test draw.repo.0 draw.storage.0 draw.lease r s l))))
 
-  pub room_kept : KeepsRoom old new
-  room_kept q is = subst IsSome (sym (keeps q)) (either (is_draw draw q))
-    where
-      either : (b : Bool) → IsSome (cond b (Some kept) (room_at old q))
-      either true = refl
-      either false = is
+    pub room_kept : KeepsRoom old new
+    room_kept q is = subst IsSome (sym (keeps q)) (either (is_draw draw q))
+      where
+        either : (b : Bool) → IsSome (cond b (Some kept) (room_at old q))
+        either true = refl
+        either false = is
 
 -- ---- storages that are gone through
 
 among : (number : ℕ) (storages : List StorageId)
-    → is_one_of number (numbers_of storages) ≡ list_any (λ (storage : StorageId). storage.0 == number) storages
+    → is_one_of number (numbers_of storages)
+    ≡ list_any (λ (storage : StorageId). storage.0 == number) storages
 among number [] = refl
-among number (storage ∷ storages) = ap (λ rest. (storage.0 == number) || rest) (among number storages)
+among number (storage ∷ storages) =
+    ap (λ rest. (storage.0 == number) || rest) (among number storages)
 
 -- one more of them
 pub among_further : (storages : List StorageId) (i : ℕ) (d : StorageId) → i < length storages
@@ -151,22 +169,26 @@ pub among_further : (storages : List StorageId) (i : ℕ) (d : StorageId) → i 
 among_further storages i d within number =
     among number (take (i + 1) storages)
     ∙ list_any_more (λ (storage : StorageId). storage.0 == number) storages i d within
-    ∙ ap (λ first. first || ((get_or storages i d).0 == number)) (sym (among number (take i storages)))
-    ∙ ap (λ more. is_one_of number (numbers_of (take i storages)) || more) (flipped (get_or storages i d).0 number)
+    ∙ ap (λ first. first || ((get_or storages i d).0 == number))
+    (sym (among number (take i storages)))
+    ∙ ap (λ more. is_one_of number (numbers_of (take i storages)) || more)
+    (flipped (get_or storages i d).0 number)
 
 -- each is one of them
 pub among_itself : (storages : List StorageId) (i : ℕ) (d : StorageId) → i < length storages
     → is_one_of (get_or storages i d).0 (numbers_of storages) ≡ true
 among_itself storages i d within =
     among (get_or storages i d).0 storages
-    ∙ list_any_at (λ (storage : StorageId). storage.0 == (get_or storages i d).0) storages i d within (same_self (get_or storages i d).0)
+    ∙ list_any_at (λ (storage : StorageId). storage.0 == (get_or storages i d).0) storages i d
+    within (same_self (get_or storages i d).0)
 
 -- ---- room that is made
 
 module _ (old new : Draws) (draw : Draw) where
   pub made-keeps : MakesRoom draw_cmp draw old new → KeepsRoom old new
   made-keeps (inl makes) = room_kept draw None old new makes.becomes
-  made-keeps (inr had) = λ q is. subst (λ (draws : Draws). IsSome (room_at draws q)) (sym had.same) is
+  made-keeps (inr had) =
+      λ q is. subst (λ (draws : Draws). IsSome (room_at draws q)) (sym had.same) is
 
   -- nothing is seen of it
   pub made-same : MakesRoom draw_cmp draw old new → ledger_of new ≡ ledger_of old

@@ -1,17 +1,19 @@
 //! What is kept of each lease, by its repository and storage. Only to make room takes memory.
 
-ghost use Rattle.std.specs.Prelude.{◌≡◌, ◌==◌, IsSome, OnOk, Some};
+ghost use Rattle.std.specs.Prelude.{◌≡◌, ◌==◌, IsSome, OnOk};
 ghost use Rattle.std.specs.Option.{option_copied};
-ghost use Rattle.px_cluster.specs.Ledger.{with_purpose, with_purposes, with_commit, answered};
+ghost use Rattle.px_cluster.specs.Ledger.{answered, with_commit, with_purpose, with_purposes};
+ghost use Rattle.px_cluster.specs.Ledger.{with_snapshot};
 ghost use Rattle.px_cluster.specs.Numbers.{is_one_of};
 ghost use Rattle.genbook.specs.Changes.{numbers_of};
 ghost use Rattle.issued.specs.Draws.{HasRoom, KeepsRoom, kept_at, ledger_of, room_at};
-ghost use Rattle.issued.specs.Purposes.{purpose_of};
+ghost use Rattle.issued.specs.Purposes.{purpose_drawn};
 
 use crate::Purpose;
 use crate::draw::Draw;
-use crate::purpose::{with_answer, with_commit};
+use crate::purpose::{Drawn, fresh, keep_answer, keep_commit, keep_snapshot};
 use crate::room::make_room;
+use node_calls::Snapshot;
 use px_base::{Lease, RepoId, StorageId};
 use std::alloc::AllocError;
 use std::collections::BTreeMap;
@@ -40,6 +42,7 @@ pub(crate) fn reserve_each(
 ) -> Result<(), AllocError>
     ensures room { OnOk result
         (HasRoom draws.new.entries repo.0 (numbers_of storages.now) lease) }
+    ensures others { KeepsRoom draws.old.entries draws.new.entries }
     ensures same { ledger_of draws.new.entries ≡ ledger_of draws.old.entries }
 {
     for storage in storages {
@@ -53,8 +56,8 @@ pub(crate) fn reserve_each(
     Ok(())
 }
 
-// Makes room for one draw.
-fn reserve(draws: &mut Draws, draw: Draw) -> Result<(), AllocError>
+/// Makes room for one draw.
+pub(crate) fn reserve(draws: &mut Draws, draw: Draw) -> Result<(), AllocError>
     ensures room { OnOk result (IsSome (room_at draws.new.entries draw)) }
     ensures others { KeepsRoom draws.old.entries draws.new.entries }
     ensures same { ledger_of draws.new.entries ≡ ledger_of draws.old.entries }
@@ -68,12 +71,12 @@ pub(crate) fn write_each(
     repo: RepoId,
     storages: &[StorageId],
     lease: Lease,
-    purpose: &Purpose,
+    what: Drawn,
 )
     requires { HasRoom draws.old.entries repo.0 (numbers_of storages.now) lease }
     ensures { ledger_of draws.new.entries ≡ with_purposes (ledger_of draws.old.entries) repo.0
         (λ storage. is_one_of storage (numbers_of storages.now)) lease
-        (λ storage old. purpose_of (Some purpose.now)) }
+        (λ storage old. purpose_drawn what) }
 {
     for storage in storages {
         let draw = Draw {
@@ -81,19 +84,19 @@ pub(crate) fn write_each(
             storage: *storage,
             lease,
         };
-        write(draws, draw, purpose);
+        write(draws, draw, what);
     }
 }
 
-// The purpose of one draw, where there is room for it.
-fn write(draws: &mut Draws, draw: Draw, purpose: &Purpose)
+/// The lease was drawn for this purpose, at the storage of one draw.
+pub(crate) fn write(draws: &mut Draws, draw: Draw, what: Drawn)
     requires { IsSome (room_at draws.old.entries draw) }
     ensures ledger { ledger_of draws.new.entries ≡ with_purpose (ledger_of draws.old.entries)
-        draw.repo.0 draw.storage.0 draw.lease (purpose_of (Some purpose.now)) }
+        draw.repo.0 draw.storage.0 draw.lease (purpose_drawn what) }
     ensures others { KeepsRoom draws.old.entries draws.new.entries }
 {
     if let Some(kept) = draws.get_mut(&draw) {
-        *kept = Some(*purpose);
+        *kept = Some(fresh(what));
     }
 }
 
@@ -104,7 +107,7 @@ pub(crate) fn commit(draws: &mut Draws, draw: Draw, verdict: &Verdict)
         (λ other purpose. with_commit verdict.now.hash purpose) }
 {
     if let Some(kept) = draws.get_mut(&draw) {
-        *kept = with_commit(*kept, verdict);
+        keep_commit(kept, verdict);
     }
 }
 
@@ -115,6 +118,18 @@ pub(crate) fn answer(draws: &mut Draws, draw: Draw)
         (answered (ledger_of draws.old.entries draw.repo.0 draw.storage.0 draw.lease)) }
 {
     if let Some(kept) = draws.get_mut(&draw) {
-        *kept = with_answer(*kept);
+        keep_answer(kept);
+    }
+}
+
+/// A snapshot for an update is kept, in the place of an older one.
+pub(crate) fn keep(draws: &mut Draws, draw: Draw, snapshot: Snapshot)
+    ensures { ledger_of draws.new.entries ≡ with_purpose (ledger_of draws.old.entries)
+        draw.repo.0 draw.storage.0 draw.lease
+        (with_snapshot snapshot
+        (ledger_of draws.old.entries draw.repo.0 draw.storage.0 draw.lease)) }
+{
+    if let Some(kept) = draws.get_mut(&draw) {
+        keep_snapshot(kept, snapshot);
     }
 }

@@ -1,34 +1,41 @@
 //! The effects that were issued, and the answers that are kept.
 
-ghost use Rattle.std.specs.Prelude.{◌≡◌, OnOk, false};
+ghost use Rattle.std.specs.Prelude.{◌≡◌, None, OnOk, false};
 ghost use Rattle.std.specs.Option.{option_copied, option_map};
 ghost use Rattle.px_cluster.specs.Cluster.{empty};
 ghost use Rattle.px_cluster.specs.Issues.{with_drawn};
 ghost use Rattle.px_cluster.specs.Ledger as ledger;
 ghost use Rattle.genbook.specs.Changes.{numbers_of};
 ghost use Rattle.issued.specs.Draws.{HasRoom, ledger_of};
-ghost use Rattle.issued.specs.Issued.{HasPushRoom, IssuesCommit, IssuesPush, KeepsAnswer};
-ghost use Rattle.issued.specs.Issued.{cluster_of, destination_of, pushed_of};
-ghost use Rattle.issued.specs.Purposes.{purpose_of};
+ghost use Rattle.issued.specs.Issued.{HasPushRoom, HasWorkRoom, IssuesCommit, IssuesPush};
+ghost use Rattle.issued.specs.Issued.{KeepsAnswer, KeepsRoom, KeepsSnapshot, cluster_of};
+ghost use Rattle.issued.specs.Issued.{destination_of, pushed_of, target_of, with_work, worked_of};
+ghost use Rattle.issued.specs.Purposes.{number_of, purpose_drawn, purpose_of};
 
 use crate::Purpose;
 use crate::draw::Draw;
 use crate::draws::{self, Draws};
-use crate::purpose::{is_committed, is_made};
+use crate::purpose::{
+    Drawn, is_committed, is_delete_of, is_made, is_worked, snapshot_in, source_in,
+};
 use crate::pushes::{self, Pushes};
-use px_base::{Gen, Lease, RepoId, StorageId, TxId};
+use crate::works::{self, Works};
+use node_calls::Snapshot;
+use px_base::{Gen, JobId, Lease, RepoId, StorageId, TxId};
 use std::alloc::{AllocError, Global};
 use std::collections::BTreeMap;
 use std::marker::Model;
 use voters::Verdict;
 
 /// Which effect was issued under each lease for each storage, and which answer of the node is kept.
-/// Nothing is ever forgotten, since an effect may come to its node at any time. A lease and a push
-/// are found in logarithmic time. Only `reserve` and `reserve_push` take memory.
+/// Nothing is ever forgotten, since an effect may come to its node at any time. A lease, a push and
+/// a job are found in logarithmic time. Only `reserve`, `reserve_push` and `reserve_work` take
+/// memory.
 #[derive(Drop)]
 pub struct Issued {
     draws: Draws,
     pushes: Pushes,
+    works: Works,
 }
 
 impl Model for Issued {
@@ -36,7 +43,11 @@ impl Model for Issued {
 
     ghost Value = { Entries };
 
-    ghost view = { λ i. record { draws = i.draws.entries; pushes = i.pushes.entries } };
+    ghost view = { λ i. record {
+      draws = i.draws.entries;
+      pushes = i.pushes.entries;
+      works = i.works.entries;
+    } };
 }
 
 impl Issued {
@@ -47,11 +58,12 @@ impl Issued {
         Issued {
             draws: BTreeMap::new(alloc),
             pushes: BTreeMap::new(alloc),
+            works: BTreeMap::new(alloc),
         }
     }
 
-    /// Takes the memory for a lease that is drawn for each of these storages. Nothing is issued by
-    /// it, also where memory wants. What is taken is kept until something is issued there.
+    /// Takes the memory for a lease that is drawn for each of these storages. Nothing is issued and
+    /// no room is lost by it, also where memory wants.
     pub fn reserve(
         &mut self,
         repo: RepoId,
@@ -60,13 +72,14 @@ impl Issued {
     ) -> Result<(), AllocError>
         ensures ok { OnOk result
             (HasRoom self.new.draws repo.0 (numbers_of storages.now) lease) }
+        ensures others { KeepsRoom self.old self.new }
         ensures same { cluster_of self.new ≡ cluster_of self.old }
     {
         draws::reserve_each(&mut self.draws, repo, storages, lease)
     }
 
-    /// Takes the memory for a push of a transaction that has these members. Nothing is issued by it,
-    /// also where memory wants. What is taken is kept until something is issued there.
+    /// Takes the memory for a push of a transaction that has these members. Nothing is issued and
+    /// no room is lost by it, also where memory wants.
     pub fn reserve_push(
         &mut self,
         tx: TxId,
@@ -76,10 +89,33 @@ impl Issued {
     ) -> Result<(), AllocError>
         ensures ok { OnOk result
             (HasPushRoom self.new tx.0 repo.0 (numbers_of members.now) lease) }
+        ensures others { KeepsRoom self.old self.new }
         ensures same { cluster_of self.new ≡ cluster_of self.old }
     {
         draws::reserve_each(&mut self.draws, repo, members, lease)?;
         pushes::reserve(&mut self.pushes, tx)
+    }
+
+    /// Takes the memory for a job that is taken for its target, under a lease that is drawn for it.
+    /// Nothing is issued and no room is lost by it, also where memory wants.
+    pub fn reserve_work(
+        &mut self,
+        job: JobId,
+        repo: RepoId,
+        target: StorageId,
+        lease: Lease,
+    ) -> Result<(), AllocError>
+        ensures ok { OnOk result (HasWorkRoom self.new job.0 repo.0 target.0 lease) }
+        ensures others { KeepsRoom self.old self.new }
+        ensures same { cluster_of self.new ≡ cluster_of self.old }
+    {
+        let draw = Draw {
+            repo,
+            storage: target,
+            lease,
+        };
+        draws::reserve(&mut self.draws, draw)?;
+        works::reserve(&mut self.works, job)
     }
 
     /// Issues the creation of a replica under a lease, for each of these storages.
@@ -88,12 +124,11 @@ impl Issued {
         ensures { cluster_of self.new ≡ with_drawn (cluster_of self.old) repo.0
             (numbers_of storages.now) lease (ledger.Creation false) }
     {
-        let purpose = Purpose::Creation { made: false };
-        draws::write_each(&mut self.draws, repo, storages, lease, &purpose);
+        draws::write_each(&mut self.draws, repo, storages, lease, Drawn::Creation);
     }
 
-    /// Issues a prepare and an abort under a lease, for each member of a push that begins at a newest
-    /// generation.
+    /// Issues a prepare and an abort under a lease, for each member of a push that begins at a
+    /// newest generation.
     pub fn begins(
         &mut self,
         tx: TxId,
@@ -105,13 +140,55 @@ impl Issued {
         requires { HasPushRoom self.old tx.0 repo.0 (numbers_of members.now) lease }
         ensures { IssuesPush tx repo.0 (numbers_of members.now) lease begun.0 self.old self.new }
     {
-        let purpose = Purpose::Push {
-            begun,
-            commit: None,
-            answered: false,
-        };
-        draws::write_each(&mut self.draws, repo, members, lease, &purpose);
+        draws::write_each(&mut self.draws, repo, members, lease, Drawn::Push(begun));
         pushes::write(&mut self.pushes, tx, repo, lease);
+    }
+
+    /// Issues the calls of a job that is taken to bring its target to what is newest at a source.
+    pub fn updates(
+        &mut self,
+        job: JobId,
+        repo: RepoId,
+        target: StorageId,
+        lease: Lease,
+        source: StorageId,
+        generation: Gen,
+    )
+        requires { HasWorkRoom self.old job.0 repo.0 target.0 lease }
+        ensures { cluster_of self.new ≡ with_work (cluster_of self.old) job.0 repo.0 target.0 lease
+            (ledger.Updating job.0 source.0 generation.0 None false) }
+    {
+        self.issue_work(
+            job,
+            repo,
+            target,
+            lease,
+            Drawn::Update(job, source, generation),
+        );
+    }
+
+    /// Issues the removal of a job that is taken to remove the replica of its target.
+    pub fn deletes(&mut self, job: JobId, repo: RepoId, target: StorageId, lease: Lease)
+        requires { HasWorkRoom self.old job.0 repo.0 target.0 lease }
+        ensures { cluster_of self.new ≡ with_work (cluster_of self.old) job.0 repo.0 target.0 lease
+            (ledger.Deleting job.0 false) }
+    {
+        self.issue_work(job, repo, target, lease, Drawn::Delete(job));
+    }
+
+    // Issues the calls of a job for its target, under the lease that is drawn for it.
+    fn issue_work(&mut self, job: JobId, repo: RepoId, target: StorageId, lease: Lease, what: Drawn)
+        requires { HasWorkRoom self.old job.0 repo.0 target.0 lease }
+        ensures { cluster_of self.new ≡ with_work (cluster_of self.old) job.0 repo.0 target.0 lease
+            (purpose_drawn what) }
+    {
+        let draw = Draw {
+            repo,
+            storage: target,
+            lease,
+        };
+        draws::write(&mut self.draws, draw, what);
+        works::write(&mut self.works, job, repo, target);
     }
 
     /// Issues the commit of a push under a lease for a storage, by the verdict. Where the lease was
@@ -127,8 +204,8 @@ impl Issued {
         draws::commit(&mut self.draws, draw, verdict);
     }
 
-    /// Keeps that the node of a storage did what was issued under a lease: that it made the replica,
-    /// or answered the commit of a push with a vote.
+    /// Keeps that the node of a storage did what was issued under a lease: that it made the
+    /// replica, answered the commit of a push with a vote, or did what a job asks.
     pub fn answers(&mut self, repo: RepoId, storage: StorageId, lease: Lease)
         ensures { KeepsAnswer repo.0 storage.0 lease self.old self.new }
     {
@@ -138,6 +215,25 @@ impl Issued {
             lease,
         };
         draws::answer(&mut self.draws, draw);
+    }
+
+    /// Keeps a snapshot for the update that was issued under a lease, in the place of an older one.
+    /// Where none was issued, nothing is kept.
+    pub fn keep_snapshot(
+        &mut self,
+        repo: RepoId,
+        storage: StorageId,
+        lease: Lease,
+        snapshot: Snapshot,
+    )
+        ensures { KeepsSnapshot repo.0 storage.0 lease snapshot self.old self.new }
+    {
+        let draw = Draw {
+            repo,
+            storage,
+            lease,
+        };
+        draws::keep(&mut self.draws, draw, snapshot);
     }
 
     /// What a lease was drawn for at a storage, where an effect was issued under it.
@@ -160,6 +256,13 @@ impl Issued {
         pushes::push_of(&self.pushes, tx)
     }
 
+    /// The repository and the target of a job that was taken once, also of one that ended.
+    pub fn work_of(&self, job: JobId) -> Option<(RepoId, StorageId)>
+        ensures { option_map target_of result ≡ worked_of self.now.works job.0 }
+    {
+        works::work_of(&self.works, job)
+    }
+
     /// Whether the node of a storage answered that it made the replica, under this lease.
     pub fn is_made(&self, repo: RepoId, storage: StorageId, lease: Lease) -> bool
         ensures { result ≡ ledger.is_made (ledger_of self.now.draws repo.0 storage.0 lease) }
@@ -172,5 +275,50 @@ impl Issued {
         ensures { result ≡ ledger.is_committed (ledger_of self.now.draws repo.0 storage.0 lease) }
     {
         is_committed(self.purpose(repo, storage, lease))
+    }
+
+    /// The storage that the update of this job copies from, where it was issued under this lease.
+    pub fn source_in(
+        &self,
+        repo: RepoId,
+        storage: StorageId,
+        lease: Lease,
+        job: JobId,
+    ) -> Option<StorageId>
+        ensures { option_map number_of result
+            ≡ ledger.source_in job.0 (ledger_of self.now.draws repo.0 storage.0 lease) }
+    {
+        source_in(self.purpose(repo, storage, lease), job)
+    }
+
+    /// The snapshot that is kept for the update of this job, under this lease.
+    pub fn snapshot_in(
+        &self,
+        repo: RepoId,
+        storage: StorageId,
+        lease: Lease,
+        job: JobId,
+    ) -> Option<&Snapshot>
+        ensures { option_copied result
+            ≡ ledger.snapshot_in job.0 (ledger_of self.now.draws repo.0 storage.0 lease) }
+    {
+        snapshot_in(self.purpose(repo, storage, lease), job)
+    }
+
+    /// Whether the removal of this job was issued under this lease.
+    pub fn is_delete_of(&self, repo: RepoId, storage: StorageId, lease: Lease, job: JobId) -> bool
+        ensures { result
+            ≡ ledger.is_delete_of job.0 (ledger_of self.now.draws repo.0 storage.0 lease) }
+    {
+        is_delete_of(self.purpose(repo, storage, lease), job)
+    }
+
+    /// Whether the node of a storage answered that it applied a snapshot or removed the replica,
+    /// for this job under this lease.
+    pub fn is_worked(&self, repo: RepoId, storage: StorageId, lease: Lease, job: JobId) -> bool
+        ensures { result
+            ≡ ledger.is_worked job.0 (ledger_of self.now.draws repo.0 storage.0 lease) }
+    {
+        is_worked(self.purpose(repo, storage, lease), job)
     }
 }

@@ -7,6 +7,7 @@ mod issued;
 mod purpose;
 mod pushes;
 mod room;
+mod works;
 
 pub use issued::Issued;
 pub use purpose::Purpose;

@@ -1,15 +1,17 @@
 //! What a lease was drawn for at a storage.
 
-ghost use Rattle.std.specs.Prelude.{◌≡◌};
-ghost use Rattle.std.specs.Option.{option_copied};
-ghost use Rattle.px_cluster.specs.Ledger.{answered, is_committed, is_made, with_commit};
-ghost use Rattle.issued.specs.Purposes.{purpose_of};
+ghost use Rattle.std.specs.Prelude.{◌≡◌, Some};
+ghost use Rattle.std.specs.Option.{option_copied, option_map};
+ghost use Rattle.px_cluster.specs.Ledger.{answered, is_committed, is_delete_of, is_made, is_worked};
+ghost use Rattle.px_cluster.specs.Ledger.{snapshot_in, source_in, with_commit, with_snapshot};
+ghost use Rattle.issued.specs.Purposes.{number_of, purpose_drawn, purpose_of};
 
-use px_base::Gen;
+use node_calls::Snapshot;
+use px_base::{Gen, JobId, StorageId};
 use voters::Verdict;
 
 /// What a lease was drawn for at a storage, and what is kept of it.
-#[derive(Clone, Copy, Debug, PartialEq, Eq)]
+#[derive(Drop)]
 pub enum Purpose {
     /// The creation of a replica.
     Creation {
@@ -25,41 +27,94 @@ pub enum Purpose {
         /// Whether the node answered the commit with a vote.
         answered: bool,
     },
+    /// A job that brings the replica to what a source has.
+    Update {
+        /// The number of the job.
+        job: JobId,
+        /// The storage that it copies from.
+        source: StorageId,
+        /// The newest generation when the job was taken.
+        generation: Gen,
+        /// The snapshot of the source that is kept, where one was taken.
+        snapshot: Option<Snapshot>,
+        /// Whether the node answered that it applied a snapshot.
+        answered: bool,
+    },
+    /// A job that removes the replica.
+    Delete {
+        /// The number of the job.
+        job: JobId,
+        /// Whether the node answered that it removed the replica.
+        answered: bool,
+    },
 }
 
-/// The same with the answer of the node.
-pub(crate) fn with_answer(kept: Option<Purpose>) -> Option<Purpose>
-    ensures { purpose_of result ≡ answered (purpose_of kept) }
+/// What a lease is drawn for, of which nothing is answered yet.
+#[derive(Clone, Copy)]
+pub(crate) enum Drawn {
+    /// The creation of a replica.
+    Creation,
+    /// A push that begins at a newest generation.
+    Push(Gen),
+    /// A job that copies from a source what is newest.
+    Update(JobId, StorageId, Gen),
+    /// A job that removes the replica.
+    Delete(JobId),
+}
+
+/// The purpose of a lease that is just drawn.
+pub(crate) fn fresh(what: Drawn) -> Purpose
+    ensures { purpose_of (Some result) ≡ purpose_drawn what }
 {
-    match kept {
-        Some(Purpose::Creation { .. }) => Some(Purpose::Creation { made: true }),
-        Some(Purpose::Push { begun, commit, .. }) => Some(Purpose::Push {
+    match what {
+        Drawn::Creation => Purpose::Creation { made: false },
+        Drawn::Push(begun) => Purpose::Push {
             begun,
-            commit,
-            answered: true,
-        }),
-        None => None,
+            commit: None,
+            answered: false,
+        },
+        Drawn::Update(job, source, generation) => Purpose::Update {
+            job,
+            source,
+            generation,
+            snapshot: None,
+            answered: false,
+        },
+        Drawn::Delete(job) => Purpose::Delete {
+            job,
+            answered: false,
+        },
     }
 }
 
-/// The same with the commit of a push, by the verdict.
-pub(crate) fn with_commit(kept: Option<Purpose>, verdict: &Verdict) -> Option<Purpose>
-    ensures { purpose_of result ≡ with_commit verdict.now.hash (purpose_of kept) }
+/// The node answered.
+pub(crate) fn keep_answer(kept: &mut Option<Purpose>)
+    ensures { purpose_of kept.new ≡ answered (purpose_of kept.old) }
 {
     match kept {
-        Some(
-            Purpose::Push {
-                begun,
-                answered,
-                ..
-            },
-        ) => Some(Purpose::Push {
-            begun,
-            commit: Some(*verdict),
-            answered,
-        }),
-        Some(Purpose::Creation { made }) => Some(Purpose::Creation { made }),
-        None => None,
+        Some(Purpose::Creation { made }) => *made = true,
+        Some(Purpose::Push { answered, .. }) => *answered = true,
+        Some(Purpose::Update { answered, .. }) => *answered = true,
+        Some(Purpose::Delete { answered, .. }) => *answered = true,
+        None => {}
+    }
+}
+
+/// The commit of a push is issued, by the verdict.
+pub(crate) fn keep_commit(kept: &mut Option<Purpose>, verdict: &Verdict)
+    ensures { purpose_of kept.new ≡ with_commit verdict.now.hash (purpose_of kept.old) }
+{
+    if let Some(Purpose::Push { commit, .. }) = kept {
+        *commit = Some(*verdict);
+    }
+}
+
+/// A snapshot for an update is kept, in the place of an older one.
+pub(crate) fn keep_snapshot(kept: &mut Option<Purpose>, taken: Snapshot)
+    ensures { purpose_of kept.new ≡ with_snapshot taken (purpose_of kept.old) }
+{
+    if let Some(Purpose::Update { snapshot, .. }) = kept {
+        *snapshot = Some(taken);
     }
 }
 
@@ -69,7 +124,9 @@ pub(crate) fn is_made(kept: Option<&Purpose>) -> bool
 {
     match kept {
         Some(Purpose::Creation { made }) => *made,
-        Some(Purpose::Push { .. }) | None => false,
+        Some(Purpose::Push { .. } | Purpose::Update { .. } | Purpose::Delete { .. }) | None => {
+            false
+        }
     }
 }
 
@@ -79,6 +136,54 @@ pub(crate) fn is_committed(kept: Option<&Purpose>) -> bool
 {
     match kept {
         Some(Purpose::Push { answered, .. }) => *answered,
-        Some(Purpose::Creation { .. }) | None => false,
+        Some(Purpose::Creation { .. } | Purpose::Update { .. } | Purpose::Delete { .. }) | None => {
+            false
+        }
+    }
+}
+
+/// Whether the node answered that it did what this job asks.
+pub(crate) fn is_worked(kept: Option<&Purpose>, number: JobId) -> bool
+    ensures { result ≡ is_worked number.0 (purpose_of (option_copied kept.entry)) }
+{
+    match kept {
+        Some(Purpose::Update { job, answered, .. } | Purpose::Delete { job, answered }) => {
+            job.0 == number.0 && *answered
+        }
+        Some(Purpose::Creation { .. } | Purpose::Push { .. }) | None => false,
+    }
+}
+
+/// Whether it is a removal of this job.
+pub(crate) fn is_delete_of(kept: Option<&Purpose>, number: JobId) -> bool
+    ensures { result ≡ is_delete_of number.0 (purpose_of (option_copied kept.entry)) }
+{
+    match kept {
+        Some(Purpose::Delete { job, .. }) => job.0 == number.0,
+        Some(Purpose::Creation { .. } | Purpose::Push { .. } | Purpose::Update { .. }) | None => {
+            false
+        }
+    }
+}
+
+/// The storage that an update of this job copies from.
+pub(crate) fn source_in(kept: Option<&Purpose>, number: JobId) -> Option<StorageId>
+    ensures { option_map number_of result
+        ≡ source_in number.0 (purpose_of (option_copied kept.entry)) }
+{
+    match kept {
+        Some(Purpose::Update { job, source, .. }) if job.0 == number.0 => Some(*source),
+        _ => None,
+    }
+}
+
+/// The snapshot that is kept for an update of this job.
+pub(crate) fn snapshot_in(kept: Option<&Purpose>, number: JobId) -> Option<&Snapshot>
+    ensures { option_copied result
+        ≡ snapshot_in number.0 (purpose_of (option_copied kept.entry)) }
+{
+    match kept {
+        Some(Purpose::Update { job, snapshot, .. }) if job.0 == number.0 => snapshot.as_ref(),
+        _ => None,
     }
 }

@@ -11,6 +11,8 @@ returns-in-Some c =
     let draw = c.args.draw in
     let old = c.args.draws.now.entries in
     let there = subst IsSome c.in-Some.ensures.value refl in
-    ledger_of-kept draw c.with_answer.result old _ ((c.get_mut.follows.holds c.with_answer.result).3 there).0
+    let kept = c.keep_answer.new.kept in
+    ledger_of-kept draw kept old _ ((c.get_mut.follows.holds kept).3 there).0
     ∙ ap (λ purpose. with_purpose (ledger_of old) draw.repo.0 draw.storage.0 draw.lease purpose)
-    (c.with_answer.ensures ∙ ap (λ room. answered (purpose_of (option_flatten room))) c.in-Some.ensures.value)
+    (c.keep_answer.ensures
+    ∙ ap (λ room. answered (purpose_of (option_flatten room))) c.in-Some.ensures.value)

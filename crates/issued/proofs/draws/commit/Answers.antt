@@ -12,7 +12,9 @@ returns-in-Some c =
     let hash = c.args.verdict.now.hash in
     let old = c.args.draws.now.entries in
     let there = subst IsSome c.in-Some.ensures.value refl in
-    ledger_of-kept draw c.with_commit.result old _ ((c.get_mut.follows.holds c.with_commit.result).3 there).0
+    let kept = c.keep_commit.new.kept in
+    ledger_of-kept draw kept old _ ((c.get_mut.follows.holds kept).3 there).0
     ∙ ap (λ purpose. with_purpose (ledger_of old) draw.repo.0 draw.storage.0 draw.lease purpose)
-    (c.with_commit.ensures ∙ ap (λ room. with_commit hash (purpose_of (option_flatten room))) c.in-Some.ensures.value)
+    (c.keep_commit.ensures
+    ∙ ap (λ room. with_commit hash (purpose_of (option_flatten room))) c.in-Some.ensures.value)
     ∙ with_purpose-changed (ledger_of old) draw.repo.0 draw.storage.0 draw.lease (with_commit hash)

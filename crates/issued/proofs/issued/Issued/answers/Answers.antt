@@ -6,7 +6,18 @@ use Rattle.issued.proofs.issued.Issued.answers.Goals as goal
 
 pub returns : goal.returns
 returns c =
-    let new : Entries = record { draws = c.answer.new.draws.entries; pushes = c.self.inside.pushes.entries } in
-    subst (λ (old : Entries). KeepsAnswer c.args.repo.0 c.args.storage.0 c.args.lease old new) c.self.view_is
-    (answer_kept (record { draws = c.self.inside.draws.entries; pushes = c.self.inside.pushes.entries }) new
-    c.args.repo.0 c.args.storage.0 c.args.lease c.answer.ensures refl)
+    let inside = c.self.inside in
+    let before : Entries = record {
+      draws = inside.draws.entries;
+      pushes = inside.pushes.entries;
+      works = inside.works.entries;
+    } in
+    let now : Entries = record {
+      draws = c.answer.new.draws.entries;
+      pushes = inside.pushes.entries;
+      works = inside.works.entries;
+    } in
+    subst (λ (old : Entries). KeepsAnswer c.args.repo.0 c.args.storage.0 c.args.lease old now)
+    c.self.view_is
+    (answer_kept before now c.args.repo.0 c.args.storage.0 c.args.lease c.answer.ensures
+    (record { pushes = refl; works = refl }))

@@ -6,7 +6,19 @@ use Rattle.issued.proofs.issued.Issued.commits.Goals as goal
 
 pub returns : goal.returns
 returns c =
-    let new : Entries = record { draws = c.commit.new.draws.entries; pushes = c.self.inside.pushes.entries } in
-    subst (λ (old : Entries). IssuesCommit c.args.repo.0 c.args.storage.0 c.args.lease c.args.verdict.now.hash old new) c.self.view_is
-    (commit_issued (record { draws = c.self.inside.draws.entries; pushes = c.self.inside.pushes.entries }) new
-    c.args.repo.0 c.args.storage.0 c.args.lease c.args.verdict.now.hash c.commit.ensures refl)
+    let inside = c.self.inside in
+    let before : Entries = record {
+      draws = inside.draws.entries;
+      pushes = inside.pushes.entries;
+      works = inside.works.entries;
+    } in
+    let now : Entries = record {
+      draws = c.commit.new.draws.entries;
+      pushes = inside.pushes.entries;
+      works = inside.works.entries;
+    } in
+    let hash = c.args.verdict.now.hash in
+    subst (λ (old : Entries).
+    IssuesCommit c.args.repo.0 c.args.storage.0 c.args.lease hash old now) c.self.view_is
+    (commit_issued before now c.args.repo.0 c.args.storage.0 c.args.lease hash
+    c.commit.ensures (record { pushes = refl; works = refl }))

@@ -1,6 +1,6 @@
 -- An operation that issues nothing, as an event of the cluster.
 use Rattle.std.proofs.Common.{◌≡◌, ℕ, true, false, not, Bool, Option, None, Some, refl, sym, ap, subst, ◌∙◌}
-use Rattle.std.specs.Option.{option_or}
+use Rattle.std.specs.Option.{IsSome, option_or}
 use Rattle.px_base.specs.declared.phase.Phase.TheVariants.{Prepared, Committed}
 use Rattle.px_ops.specs.declared.op.Op.{Op}
 use Rattle.px_ops.specs.declared.op.Op.TheVariants as op
@@ -48,7 +48,7 @@ module _ (core new : Core) (nodes : NodesState) (was : Entries) (asked : Op) (an
   abbrev here : Cluster
   here = world core nodes was
 
-  answered_happens : is_answered here asked ≡ true → issues here asked ≡ here
+  pub answered_happens : is_answered here asked ≡ true → issues here asked ≡ here
       → Step here (Asks asked) (Replied answer) (world new nodes was)
   answered_happens answered none =
       let own : event_refusal here asked ≡ refusal_of core asked =
@@ -60,6 +60,41 @@ module _ (core new : Core) (nodes : NodesState) (was : Entries) (asked : Op) (an
             ∙ ap (λ r. unless_refused r here (done_in here asked)) (sym own);
       }
 
+  -- what it issues is issued, where nothing refuses it
+  pub issuing_happens : (now : Entries) → refusal_of core asked ≡ None
+      → is_answered here asked ≡ true → world core nodes now ≡ issues here asked
+      → Step here (Asks asked) (Replied answer) (world new nodes now)
+  issuing_happens now accepted answered issued =
+      let own : event_refusal here asked ≡ refusal_of core asked =
+      none_or (is_answered here asked) (refusal_of core asked) answered in
+      let none : event_refusal here asked ≡ None = own ∙ accepted in
+      let left : next_core core asked ≡ left_by core asked =
+      ap (λ r. unless_refused r core (left_by core asked)) accepted in record {
+        replied = ap Replied replied
+            ∙ ap (λ r. Replied (told r (answer_of core asked))) (sym own);
+        leads = (λ i. with_core (issued i) ((leads ∙ left) i))
+            ∙ ap (λ r. unless_refused r here (done_in here asked)) (sym none);
+      }
+
+  -- where it is refused, nothing is issued
+  pub refused_happens : is_answered here asked ≡ true → IsSome (refusal_of core asked)
+      → Step here (Asks asked) (Replied answer) (world new nodes was)
+  refused_happens answered refused = by (refusal_of core asked) refl refused
+    where
+      own : event_refusal here asked ≡ refusal_of core asked
+      own = none_or (is_answered here asked) (refusal_of core asked) answered
+
+      by : (why : Option Refusal) → refusal_of core asked ≡ why → IsSome why
+          → Step here (Asks asked) (Replied answer) (world new nodes was)
+      by None is some = absurd (let z : false ≡ true = some in cc)
+      by (Some why) is some = record {
+        replied = ap Replied replied
+            ∙ ap (λ r. Replied (told r (answer_of core asked))) (sym own);
+        leads = ap (with_core here) (leads
+            ∙ ap (λ r. unless_refused r core (left_by core asked)) is)
+            ∙ ap (λ r. unless_refused r here (done_in here asked)) (sym (own ∙ is));
+      }
+
 -- ---- operations that speak of no node
 
 plain_answered : (cluster : Cluster) (asked : Op) → IsServed asked → IsPlain asked
@@ -67,7 +102,8 @@ plain_answered : (cluster : Cluster) (asked : Op) → IsServed asked → IsPlain
 plain_answered cluster (op.Enrol repo storage lease) served is = absurd is
 plain_answered cluster (op.Cast tx voter Prepared hash) served is = refl
 plain_answered cluster (op.Cast tx voter Committed hash) served is = absurd is
-plain_answered cluster (op.Ack job lease good) served is = absurd served
+plain_answered cluster (op.Ack job lease true) served is = absurd is
+plain_answered cluster (op.Ack job lease false) served is = refl
 plain_answered cluster (op.Accept repo storage lease) served is = absurd served
 plain_answered cluster (op.Settle repo storage lease last) served is = absurd served
 plain_answered cluster other served is = refl
@@ -77,7 +113,7 @@ plain_issues : (cluster : Cluster) (asked : Op) → IsServed asked → IsPlain a
 plain_issues cluster (op.Create virt path factor) served is = absurd is
 plain_issues cluster (op.Begin repo) served is = absurd is
 plain_issues cluster (op.Collect tx voter sub) served is = absurd is
-plain_issues cluster (op.Dequeue target now) served is = absurd served
+plain_issues cluster (op.Dequeue target now) served is = absurd is
 plain_issues cluster (op.AcceptBegin repo storage) served is = absurd served
 plain_issues cluster (op.SettleBegin repo storage) served is = absurd served
 plain_issues cluster other served is = refl

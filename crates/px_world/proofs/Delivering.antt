@@ -6,6 +6,7 @@ use Rattle.px_base.specs.declared.hash.Hash.{Hash}
 use Rattle.px_base.specs.declared.ids.TxId.{TxId}
 use Rattle.px_base.specs.declared.push.Push.{Push}
 use Rattle.px_ops.specs.declared.node_refusal.NodeRefusal.{NodeRefusal}
+use Rattle.px_ops.specs.declared.refusal.Refusal.TheVariants.{Node}
 use Rattle.node_calls.specs.Calls.{CommitRefuses, Commits, CreateRefuses, Creates, PrepareRefuses, Prepares}
 use Rattle.node_calls.specs.ReplicaState.{ReplicaState}
 use Rattle.issued.specs.Draws.{ledger_of}
@@ -21,7 +22,7 @@ use Rattle.px_cluster.specs.Cluster.{Cluster}
 use Rattle.px_cluster.specs.Core.{Core, repository}
 use Rattle.px_cluster.specs.Deliveries.{Delivers, with_answer}
 use Rattle.px_cluster.specs.Effects.{Effect, Location, hash_of, issued_at, issued_to, location_in}
-use Rattle.px_cluster.specs.Events.{Answer as Told, Commit, Delivered as Did, Make, Prepare, Voted}
+use Rattle.px_cluster.specs.Events.{Answer as Told, Commit, Delivered as Did, Event as Happening, Make, Prepare, Voted, refused}
 use Rattle.px_cluster.specs.Ledger.{Purpose, answered, commit_in, is_creation, is_push}
 use Rattle.px_cluster.specs.Step.{CommitRefusesAs, CommitsAs, Step, keeps_nothing, lease_of, tells_done}
 use Rattle.px_core.specs.Readers.{path_on}
@@ -39,28 +40,39 @@ effect_at repo path storage lease = record {
   lease = lease;
 }
 
-module _ (cluster : Cluster) (test : Purpose → Bool) (repo storage lease : ℕ) where
-  abbrev path_in : Option Repository → Option (List ℕ)
-  path_in book =
-      option_map (λ (location : Location). location.path) (location_in book repo storage)
-
-  abbrev issued_in : Option Repository → Option Effect
-  issued_in book = issued_at cluster test lease (location_in book repo storage)
-
-  -- it was issued
-  is_out : (book : Option Repository) (path : List ℕ) → path_in book ≡ Some path
-      → test (cluster.ledger repo storage lease) ≡ true
-      → issued_in book ≡ Some (effect_at repo path storage lease)
-  is_out None path there passes = absurd (let z : None ≡ Some path = there in cc)
-  is_out (Some book) path there passes = by (has_replica_on book storage) refl
+-- the replica of a path that is read of the core
+module _ (repo storage : ℕ) (path : List ℕ) where
+  location_is : (book : Option Repository)
+      → option_map (λ (location : Location). location.path) (location_in book repo storage)
+      ≡ Some path
+      → location_in book repo storage
+      ≡ Some (record { repo = repo; path = path; storage = storage })
+  location_is None there = absurd (let z : None ≡ Some path = there in cc)
+  location_is (Some book) there = by (has_replica_on book storage) refl
     where
       by : (has : Bool) → has_replica_on book storage ≡ has
-          → issued_in (Some book) ≡ Some (effect_at repo path storage lease)
+          → location_in (Some book) repo storage
+          ≡ Some (record { repo = repo; path = path; storage = storage })
       by true has =
           let is : Some book.path ≡ Some path = rw has at there in
           let same : book.path ≡ path = cc in
-          rw (has, passes, same) refl
+          rw (has, same) refl
       by false has = absurd (let z : None ≡ Some path = rw has at there in cc)
+
+  pub located : (core : Core) → path_on core repo storage ≡ Some path
+      → location_in (repository core repo) repo storage
+      ≡ Some (record { repo = repo; path = path; storage = storage })
+  located core there = location_is (repository core repo) there
+
+-- it was issued
+pub is_out : (cluster : Cluster) (test : Purpose → Bool) (repo storage lease : ℕ)
+    (path : List ℕ) → path_on cluster.core repo storage ≡ Some path
+    → test (cluster.ledger repo storage lease) ≡ true
+    → issued_at cluster test lease (location_in (repository cluster.core repo) repo storage)
+    ≡ Some (effect_at repo path storage lease)
+is_out cluster test repo storage lease path there passes =
+    ap (issued_at cluster test lease) (located repo storage path cluster.core there)
+    ∙ rw passes refl
 
 -- of the push of a transaction
 pushed_out : (cluster : Cluster) (test : Purpose → Bool) (tx : TxId) (repo storage lease : ℕ)
@@ -71,7 +83,7 @@ pushed_out : (cluster : Cluster) (test : Purpose → Bool) (tx : TxId) (repo sto
     ≡ Some (effect_at repo path storage lease)
 pushed_out cluster test tx repo storage lease path there pushed passes =
     ap (issued_to cluster test storage) pushed
-    ∙ is_out cluster test repo storage lease (repository cluster.core repo) path there passes
+    ∙ is_out cluster test repo storage lease path there passes
 
 -- ---- it was done, and the answer is kept
 
@@ -79,7 +91,7 @@ module _ (core : Core) (old new : NodesState) (was now : Entries) where
   abbrev here : Cluster
   here = world core old was
 
-  kept_done : {A : Type 0} (refuses : ReplicaState → NodeRefusal → Type 0)
+  pub kept_done : {A : Type 0} (refuses : ReplicaState → NodeRefusal → Type 0)
       (does : ReplicaState → A → ReplicaState → Type 0) (tells : A → Told) (effect : Effect)
       (answer : A)
       → Delivered refuses does effect.at.storage effect.at.path old (Ok answer) new
@@ -106,7 +118,7 @@ module _ (core : Core) (old new : NodesState) (was now : Entries) where
     make_done issued done =
         subst (λ found. Delivers (CreateRefuses lease) (Creates lease) tells_done answered here
         found Did (world core new now))
-        (sym (is_out here is_creation repo storage lease (repository core repo) path there issued))
+        (sym (is_out here is_creation repo storage lease path there issued))
         (kept_done (CreateRefuses lease) (Creates lease) tells_done effect tt done keeps)
 
     -- the commit of the push of a transaction
@@ -124,6 +136,26 @@ module _ (core : Core) (old new : NodesState) (was now : Entries) where
         (subst (λ h. Delivers (CommitRefusesAs lease h) (CommitsAs lease h) Voted answered here
         (Some effect) (Voted vote) (world core new now)) (sym issued)
         (kept_done (CommitRefuses lease hash) (Commits lease hash) Voted effect vote done keeps))
+
+-- ---- it was not done: the node refuses it, and that is told; or memory wants there
+
+module _ (core : Core) (old new : KeptNodes) (was : Entries) (happening : Happening)
+    (ended : NodeFault → Type 0)
+    (refusal : (why : NodeRefusal) → ended (Refused why)
+    → Step (world core (state_of old) was) happening (refused (Node why))
+    (world core (state_of new) was))
+    (same : ended Memory → state_of new ≡ state_of old) where
+  pub not_done : (fault : NodeFault) (result : Result Answer AllocError) → IsRefusal fault result
+      → ended fault
+      → Happens (record { core = core; nodes = old; issued = was }) happening result
+      (record { core = core; nodes = new; issued = was })
+  not_done (Refused why) (Ok answer) is end =
+      subst (λ a. Step (world core (state_of old) was) happening (told a)
+      (world core (state_of new) was)) (sym is) (refusal why end)
+  not_done (Refused why) (Err wants) is end = absurd is
+  not_done Memory (Ok answer) is end = absurd is
+  not_done Memory (Err wants) is end =
+      ap (λ (nodes : NodesState). world core nodes was) (same end)
 
 -- ---- a prepare for the push of a transaction, of which nothing is kept
 
@@ -166,12 +198,9 @@ module _ (core : Core) (old new : KeptNodes) (was : Entries) (tx : TxId) (push :
       → IsRefusal fault result → Prepared (Err fault)
       → Happens (record { core = core; nodes = old; issued = was }) (Prepare tx storage push) result
       (record { core = core; nodes = new; issued = was })
-  prepare_not_done (Refused why) (Ok answer) is refusal = by_found (told answer)
-      (subst (λ a. Delivers (PrepareRefuses lease push) (Prepares lease push) Voted keeps_nothing
-      before (Some brought) (told a) after) (sym is)
+  prepare_not_done = not_done core old new was (Prepare tx storage push)
+      (λ fault. Prepared (Err fault))
+      (λ why refusal. by_found (refused (Node why))
       (delivers_refusal before (state_of old) (state_of new) (PrepareRefuses lease push)
       (Prepares lease push) Voted keeps_nothing brought why refusal))
-  prepare_not_done (Refused why) (Err wants) is refusal = absurd is
-  prepare_not_done Memory (Ok answer) is same = absurd is
-  prepare_not_done Memory (Err wants) is same =
-      ap (λ (nodes : NodesState). world core nodes was) same
+      (λ same. same)

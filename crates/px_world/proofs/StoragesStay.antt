@@ -8,11 +8,10 @@ use Rattle.px_ops.specs.declared.refusal.Refusal.{Refusal}
 use Rattle.px_ops.specs.declared.reply.Reply.{Reply}
 use Rattle.px_ops.specs.declared.reply.Reply.TheVariants as reply
 use Rattle.px_cluster.specs.Book.{Repository}
-use Rattle.px_cluster.specs.Core.{Core}
+use Rattle.px_cluster.specs.Core.{Core, repository, with_repository_by}
 use Rattle.px_cluster.specs.Creating.{admit_refusal, admitted, found, with_created}
 use Rattle.px_cluster.specs.Ids.{storage_id}
 use Rattle.px_cluster.specs.Ops.{left_by, next_core, refusal_of, reply_of, told, unless_refused}
-use Rattle.px_core.specs.Served.{IsServed}
 use Rattle.nodes.specs.State.{NodesState}
 use Rattle.px_world.specs.Asked.{IsAdmission}
 use Rattle.px_world.specs.Plain.{IsPlain}
@@ -23,39 +22,28 @@ created_same : (core : Core) (there : Option ℕ) (book : Repository)
 created_same core None book = refl
 created_same core (Some repo) book = refl
 
-left_same : (core : Core) (asked : Op) → IsServed asked → (IsAdmission asked → ⊥)
+factored_same : (core : Core) (repo : ℕ) (change : Repository → Repository)
+    (there : Option Repository)
+    → (with_repository_by there repo change core).storages ≡ core.storages
+factored_same core repo change None = refl
+factored_same core repo change (Some book) = refl
+
+left_same : (core : Core) (asked : Op) → (IsAdmission asked → ⊥)
     → (left_by core asked).storages ≡ core.storages
-left_same core (op.Admit virt name) served other = absurd (other tt)
-left_same core (op.Create virt path factor) served other =
-    created_same core (found core virt path) _
-left_same core (op.SetFactor repo factor) served other = absurd served
-left_same core (op.Health storage up) served other = refl
-left_same core (op.Open threshold rounds voters) served other = refl
-left_same core (op.Cast tx voter phase hash) served other =
-    (left_alike core (op.Cast tx voter phase hash) tt).1
-left_same core (op.Withdraw tx voter) served other = refl
-left_same core (op.Cancel tx) served other = refl
-left_same core (op.Stop tx) served other = refl
-left_same core (op.Collect tx voter sub) served other = refl
-left_same core (op.Outcome tx sub) served other = refl
-left_same core (op.Close tx) served other = (left_alike core (op.Close tx) tt).1
-left_same core (op.Enrol repo storage lease) served other =
-    (left_alike core (op.Enrol repo storage lease) tt).1
-left_same core (op.Begin repo) served other = (left_alike core (op.Begin repo) tt).1
-left_same core (op.Finish tx) served other = (left_alike core (op.Finish tx) tt).1
-left_same core (op.Booked repo) served other = refl
-left_same core (op.Find virt path) served other = refl
-left_same core (op.Holder repo) served other = refl
-left_same core other served not = absurd served
+left_same core (op.Admit virt name) other = absurd (other tt)
+left_same core (op.Create virt path factor) other = created_same core (found core virt path) _
+left_same core (op.SetFactor repo factor) other =
+    factored_same core repo.0 _ (repository core repo.0)
+left_same core asked other = (left_alike core asked tt).1
 
 -- all but the taking in of a storage
-pub storages_stay : (core : Core) (asked : Op) → IsServed asked → (IsAdmission asked → ⊥)
+pub storages_stay : (core : Core) (asked : Op) → (IsAdmission asked → ⊥)
     → (next_core core asked).storages ≡ core.storages
-storages_stay core asked served other = by (refusal_of core asked)
+storages_stay core asked other = by (refusal_of core asked)
   where
     by : (why : Option Refusal)
         → (unless_refused why core (left_by core asked)).storages ≡ core.storages
-    by None = left_same core asked served other
+    by None = left_same core asked other
     by (Some why) = refl
 
 no_admission : (asked : Op) → IsPlain asked → IsAdmission asked → ⊥
@@ -63,9 +51,9 @@ no_admission (op.Admit virt name) plain is = plain
 no_admission other plain is = is
 
 -- .. those that speak of no node among them
-pub plain_stays : (core : Core) (asked : Op) → IsServed asked → IsPlain asked
+pub plain_stays : (core : Core) (asked : Op) → IsPlain asked
     → (next_core core asked).storages ≡ core.storages
-plain_stays core asked served plain = storages_stay core asked served (no_admission asked plain)
+plain_stays core asked plain = storages_stay core asked (no_admission asked plain)
 
 -- so each storage has its node
 pub nodes_stay : (core new : Core) (nodes : NodesState) (asked : Op) → new ≡ next_core core asked

@@ -1,17 +1,19 @@
 -- What operations issue to nodes and tell of them, by what is read of the core.
 use Rattle.std.specs.Prelude.{ℕ, Bool, true, false, Option, None, Some}
 use Rattle.px_base.specs.declared.hash.Hash.{Hash}
+use Rattle.px_base.specs.declared.ids.StorageId.{StorageId}
 use Rattle.px_ops.specs.declared.op.Op.{Op}
 use Rattle.px_ops.specs.declared.op.Op.TheVariants as op
 use Rattle.px_ops.specs.declared.refusal.Refusal.{Refusal}
 use Rattle.px_ops.specs.declared.refusal.Refusal.TheVariants.{NotAcked}
 use Rattle.px_ops.specs.declared.reply.Reply.TheVariants.{Refused}
 use Rattle.issued.specs.Entries.{Entries}
-use Rattle.issued.specs.Issued.{HasPushRoom}
+use Rattle.issued.specs.Issued.{HasPushRoom, HasWorkRoom, with_work}
 use Rattle.px_cluster.specs.Cluster.{Cluster}
 use Rattle.px_cluster.specs.Core.{OpenPush}
 use Rattle.px_cluster.specs.Issues.{issues_commit_at, issues_push}
-use Rattle.px_cluster.specs.Ledger.{Ledger, is_committed}
+use Rattle.px_cluster.specs.Ledger.{Deleting, Ledger, Purpose, Updating, is_committed}
+use Rattle.px_core.specs.declared.work.Work.{Work}
 use Rattle.script_rules.specs.declared.answer.Answer.{Answer}
 use Rattle.script_rules.specs.declared.answer.Answer.TheVariants.{Replied}
 
@@ -48,3 +50,21 @@ HasRoomFor entries (Some push) =
 abbrev pub begins_in : Cluster → Option OpenPush → Cluster
 begins_in cluster None = cluster
 begins_in cluster (Some push) = issues_push cluster push
+
+-- ---- jobs
+
+-- what the lease of a job that is taken is drawn for: a removal, or an update from a source
+abbrev pub purpose_from : Work → Option StorageId → Purpose
+purpose_from work None = Deleting work.job.number.0 false
+purpose_from work (Some source) =
+    Updating work.job.number.0 source.0 work.generation.0 None false
+
+-- there is room for the calls of a job that is taken
+abbrev pub HasRoomForWork : Entries → Work → Type 0
+HasRoomForWork entries work =
+    HasWorkRoom entries work.job.number.0 work.job.repo.0 work.job.target.0 work.lease
+
+-- its calls are issued to its target
+abbrev pub issues_to_target : Cluster → Work → Cluster
+issues_to_target cluster work = with_work cluster work.job.number.0 work.job.repo.0
+    work.job.target.0 work.lease (purpose_from work work.source)

@@ -1,4 +1,5 @@
 -- Which operations a script asks of the core, and which of them speak of no node.
+use Rattle.std.specs.Prelude.{true}
 use Rattle.px_base.specs.declared.phase.Phase.TheVariants.{Committed}
 use Rattle.px_ops.specs.declared.op.Op.{Op}
 use Rattle.px_ops.specs.declared.op.Op.TheVariants as op
@@ -19,4 +20,6 @@ IsPlain (op.Enrol repo storage lease) = ⊥
 IsPlain (op.Cast tx voter Committed hash) = ⊥
 IsPlain (op.Begin repo) = ⊥
 IsPlain (op.Collect tx voter sub) = ⊥
+IsPlain (op.Dequeue target now) = ⊥
+IsPlain (op.Ack job lease true) = ⊥
 IsPlain other = Unit {0}

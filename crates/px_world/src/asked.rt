@@ -36,6 +36,12 @@ impl World {
                 hash,
             } => self.confirm(alloc, op, *tx, voter, hash),
             Op::Collect { tx, voter, sub } => self.collect(alloc, op, *tx, voter, *sub),
+            Op::Dequeue { target, now } => self.dequeue(alloc, op, *target, *now),
+            Op::Ack {
+                job,
+                lease,
+                good: true,
+            } => self.complete(alloc, op, *job, *lease),
             _ => self.ask_core(alloc, op),
         }
     }

@@ -15,7 +15,9 @@ pub(crate) fn is_creation(issued: &Issued, repo: RepoId, storage: StorageId, lea
 {
     match issued.purpose(repo, storage, lease) {
         Some(Purpose::Creation { .. }) => true,
-        Some(Purpose::Push { .. }) | None => false,
+        Some(Purpose::Push { .. } | Purpose::Update { .. } | Purpose::Delete { .. }) | None => {
+            false
+        }
     }
 }
 
@@ -25,7 +27,9 @@ pub(crate) fn is_push(issued: &Issued, repo: RepoId, storage: StorageId, lease: 
 {
     match issued.purpose(repo, storage, lease) {
         Some(Purpose::Push { .. }) => true,
-        Some(Purpose::Creation { .. }) | None => false,
+        Some(Purpose::Creation { .. } | Purpose::Update { .. } | Purpose::Delete { .. }) | None => {
+            false
+        }
     }
 }
 
@@ -40,6 +44,8 @@ pub(crate) fn verdict_of(
 {
     match issued.purpose(repo, storage, lease) {
         Some(Purpose::Push { commit, .. }) => *commit,
-        Some(Purpose::Creation { .. }) | None => None,
+        Some(Purpose::Creation { .. } | Purpose::Update { .. } | Purpose::Delete { .. }) | None => {
+            None
+        }
     }
 }

@@ -116,4 +116,18 @@ impl World {
         };
         self.refs_at(alloc, storage, repo)
     }
+
+    pub(crate) fn take(
+        &mut self,
+        alloc: Global,
+        name: &StorageName,
+        now: u64,
+    ) -> Result<Answer, AllocError>
+        ensures { Tries self.old (script.Take name.now now) result self.new }
+    {
+        let Some(target) = self.core.storage_of(name) else {
+            return Ok(unknown(name));
+        };
+        self.ask(alloc, &Op::Dequeue { target, now })
+    }
 }

@@ -13,7 +13,7 @@ returns-in-Ok c =
     let inside = c.self.inside in
     let path = c.in-Some-path_on.path.now in
     let there : path_on inside.core c.in-Some.repo.0 c.args.storage.0 ≡ Some path =
-    search (rules, c.path_on.ensures, c.in-Some-path_on.is) in
+    search (rules, c.path_on.ensures.path, c.in-Some-path_on.is) in
     let new : Kept = record { core = inside.core; nodes = c.commit.new.self; issued = c.answers.new.self } in
     subst (λ (old : Kept). Happens old (cluster.Commit c.args.tx c.args.storage.0) (Ok (Voted c.in-Ok.vote)) new)
     c.self.view_is

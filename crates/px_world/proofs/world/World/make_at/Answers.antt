@@ -14,7 +14,7 @@ pub returns-in-Ok : goal.returns-in-Ok
 returns-in-Ok c =
     let inside = c.self.inside in
     let there : path_on inside.core c.args.repo.0 c.args.storage.0 ≡ Some c.in-Some.path.now =
-    search (rules, c.path_on.ensures, c.in-Some.is) in
+    search (rules, c.path_on.ensures.path, c.in-Some.is) in
     let issued : is_creation (ledger_of inside.issued.draws c.args.repo.0 c.args.storage.0 c.args.lease) ≡ true =
     search (rules, c.is_creation.ensures, c.if-not-is_creation.false) in
     let new : Kept = record { core = inside.core; nodes = c.make.new.self; issued = c.answers.new.self } in

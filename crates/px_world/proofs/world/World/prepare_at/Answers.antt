@@ -12,7 +12,7 @@ pub returns : goal.returns
 returns c =
     let inside = c.self.inside in
     let there : path_on inside.core c.in-Some.repo.0 c.args.storage.0 ≡ Some c.in-Some-path_on.path.now =
-    search (rules, c.path_on.ensures, c.in-Some-path_on.is) in
+    search (rules, c.path_on.ensures.path, c.in-Some-path_on.is) in
     let event = cluster.Prepare c.args.tx c.args.storage.0 c.args.push.now in
     let new : Kept = record { core = inside.core; nodes = c.prepare_push.new.self; issued = inside.issued } in
     elim c.match-prepare_push.branch [

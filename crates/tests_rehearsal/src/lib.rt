@@ -8,6 +8,12 @@ mod ends;
 #[cfg(test)]
 mod faults;
 #[cfg(test)]
+mod job_refusals;
+#[cfg(test)]
+mod job_turns;
+#[cfg(test)]
+mod jobs;
+#[cfg(test)]
 mod late;
 #[cfg(test)]
 mod limits;

@@ -1,6 +1,6 @@
 //! Lines on storages, repositories and pushes, and what each asks.
 
-use px_base::{Hash, Object, Push, StorageName, Update};
+use px_base::{Hash, JobId, Lease, Object, Push, StorageName, Update};
 use px_ops::Op;
 use px_script::{Event, ScriptLine, read_line};
 use std::alloc::Global;
@@ -38,6 +38,22 @@ fn pushed(alloc: Global, start: String, push: &Push) -> Result<String, Fail> {
     Ok(shown)
 }
 
+// An operation on replication jobs.
+fn job_operation(alloc: Global, op: &Op) -> Result<String, Fail> {
+    Ok(match op {
+        Op::Reconcile { only: None } => format!(in alloc; "plans for all")?,
+        Op::Beat { job, lease, now } => {
+            format!(in alloc; "{} goes on by {} at {now}", job.0, lease.number())?
+        }
+        Op::Ack { job, lease, good } => {
+            format!(in alloc; "{} ends by {}, well is {good}", job.0, lease.number())?
+        }
+        Op::Stale { now, after } => format!(in alloc; "silent for {after} at {now}")?,
+        Op::SetFactor { repo, factor } => format!(in alloc; "{} is on {factor}", repo.0)?,
+        _ => format!(in alloc; "another operation")?,
+    })
+}
+
 fn operation(alloc: Global, op: &Op) -> Result<String, Fail> {
     Ok(match op {
         Op::Admit { virt, name } => {
@@ -51,8 +67,13 @@ fn operation(alloc: Global, op: &Op) -> Result<String, Fail> {
         Op::Finish { tx } => format!(in alloc; "finishes {}", tx.0)?,
         Op::Booked { repo } => format!(in alloc; "what is booked of {}", repo.0)?,
         Op::Holder { repo } => format!(in alloc; "who has {}", repo.0)?,
-        _ => format!(in alloc; "another operation")?,
+        _ => job_operation(alloc, op)?,
     })
+}
+
+// What is done for a job that was taken under a lease.
+fn by_lease(alloc: Global, word: &str, job: JobId, lease: Lease) -> Result<String, Fail> {
+    Ok(format!(in alloc; "{word} of {} by {}", job.0, lease.number())?)
 }
 
 fn asked(alloc: Global, event: &Event) -> Result<String, Fail> {
@@ -74,6 +95,10 @@ fn asked(alloc: Global, event: &Event) -> Result<String, Fail> {
         Event::Refs { name, repo } => {
             format!(in alloc; "references of {} at {}", repo.0, named(name))?
         }
+        Event::Take { name, now } => format!(in alloc; "a job of {} at {now}", named(name))?,
+        Event::Snapshot { job, lease } => by_lease(alloc, "snapshot", *job, *lease)?,
+        Event::Apply { job, lease } => by_lease(alloc, "apply", *job, *lease)?,
+        Event::Remove { job, lease } => by_lease(alloc, "remove", *job, *lease)?,
     })
 }
 
@@ -106,6 +131,29 @@ const GOOD: &str = "\
 #[test]
 fn lines_on_storages_and_repositories_ask_for_their_events(rt: HostRuntime) -> Result<(), Fail> {
     play(rt.alloc(), &mut (), answer, GOOD)
+}
+
+// Numbers up to the greatest ones. A job of any number may be asked for.
+const GOOD_OF_JOBS: &str = "\
+    line reconcile -> plans for all
+    line take a-1.b_2 0 -> a job of a-1.b_2 at 0
+    line take a 18446744073709551615 -> a job of a at 18446744073709551615
+    line snapshot 0 1 -> snapshot of 0 by 1
+    line apply 18446744073709551615 2 -> apply of 18446744073709551615 by 2
+    line remove 7 18446744073709551614 -> remove of 7 by 18446744073709551614
+    line done 1 0 -> 1 ends by 0, well is true
+    line fail 18446744073709551615 18446744073709551614 \
+    -> 18446744073709551615 ends by 18446744073709551614, well is false
+    line beat 1 2 3 -> 1 goes on by 2 at 3
+    line beat 0 0 18446744073709551615 -> 0 goes on by 0 at 18446744073709551615
+    line stale 5 6 -> silent for 6 at 5
+    line stale 18446744073709551615 0 -> silent for 0 at 18446744073709551615
+    line factor 1 2 -> 1 is on 2
+    line factor 4294967295 4294967295 -> 4294967295 is on 4294967295";
+
+#[test]
+fn lines_on_jobs_ask_for_their_events(rt: HostRuntime) -> Result<(), Fail> {
+    play(rt.alloc(), &mut (), answer, GOOD_OF_JOBS)
 }
 
 // The greatest number of an object's name is 40 times f. The bytes of `Hi` are 72 and 105.
@@ -196,17 +244,58 @@ const BAD_UPDATES: &str = "\
     a slash at the end: :refs/heads/
     a digit too many: 1:refs/heads/a";
 
+// The same, of jobs.
+const BAD_OF_JOBS: &str = "\
+    a repository too many: reconcile 0
+    a word at the end: reconcile\x20
+    another case: Reconcile
+    no moment: take a
+    no storage: take 1
+    a moment above its range: take a 18446744073709551616
+    a moment too many: take a 1 2
+    a name and a slash: take a/b 1
+    no lease: snapshot 1
+    a lease above its range: snapshot 1 18446744073709551615
+    a job above its range: apply 18446744073709551616 1
+    a lease above its range for an apply: apply 1 18446744073709551615
+    a storage in place of a job: remove a 1
+    a word too many: remove 1 1 1
+    a lease above its range at a good end: done 1 18446744073709551615
+    no lease at an end: done 1
+    a lease above its range at a bad end: fail 1 18446744073709551615
+    a leading zero: fail 01 1
+    no moment of a beat: beat 1 1
+    a moment of a beat above its range: beat 1 1 18446744073709551616
+    a lease of a beat above its range: beat 1 18446744073709551615 1
+    one number alone: stale 1
+    a silence above its range: stale 1 18446744073709551616
+    a time above its range: stale 18446744073709551616 1
+    a number too many: stale 1 1 1
+    no factor: factor 0
+    a factor above its range: factor 0 4294967296
+    a repository above its range: factor 4294967296 1
+    a sign: factor 0 +1
+    two spaces: factor 0  1";
+
 fn is_bad(alloc: Global, line: &str) -> bool {
     matches!(read_line(alloc, line.as_bytes()), ScriptLine::Bad)
 }
 
-#[test]
-fn a_line_in_another_form_is_bad(rt: HostRuntime) -> Result<(), Fail> {
-    for row in BAD.split("\n") {
+// Fails at the first line of a table that is not bad.
+fn all_bad(alloc: Global, table: &str) -> Result<(), Fail> {
+    for row in table.split("\n") {
         let (_, line) = row.split_once(": ").unwrap_or((row, ""));
-        assert!(rt; is_bad(rt.alloc(), line), "{row}");
+        if !is_bad(alloc, line) {
+            return Err(Fail::new(format_args!("{row} is not bad")));
+        }
     }
     Ok(())
+}
+
+#[test]
+fn a_line_in_another_form_is_bad(rt: HostRuntime) -> Result<(), Fail> {
+    all_bad(rt.alloc(), BAD)?;
+    all_bad(rt.alloc(), BAD_OF_JOBS)
 }
 
 #[test]

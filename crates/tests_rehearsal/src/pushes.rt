@@ -79,8 +79,8 @@ pub const DECIDED: &str = "\
     cast 1 b prepared {vote} -> committed {vote} 2/2
     booked 0 -> newest 1 a=doubt:2:0:1 b=doubt:2:0:1";
 
-// Only the first one confirms.
-const DOUBT: &str = "\
+/// Only the first one confirms.
+pub const DOUBT: &str = "\
     commit 1 a -> refused NotOut
     collect 1 a 1 -> committed {vote} 2/2
     cast 1 a committed {vote} -> refused NotAcked

@@ -3,7 +3,7 @@
 ghost use Rattle.std.specs.Prelude.{IfOk};
 ghost use Rattle.px_world.specs.Plain.{IsServedEvent};
 
-use px_base::{Bytes, MemSink, MemSource, RepoId, StorageName, TxId};
+use px_base::{Bytes, JobId, Lease, MemSink, MemSource, RepoId, StorageName, TxId};
 use px_world::{Answer, Event, Op, Refusal, RehearseEnd, Reply, World, add_line, rehearse};
 use script_run::{Act, StateMachine};
 use std::alloc::Global;
@@ -28,6 +28,26 @@ fn act(alloc: Global, world: &mut World, line: &str) -> Result<String, Fail> {
     }
 }
 
+// What is asked of the first job under the lease 2, or a taking of the next job of the storage `b`.
+fn job_event(word: &str) -> Result<Event, Fail>
+    ensures { IfOk result IsServedEvent }
+{
+    let Some(lease) = Lease::new(2) else {
+        return Err(Fail::new("no lease"));
+    };
+    let (job, good) = (JobId(1), true);
+    Ok(match word {
+        "take" => Event::Take {
+            name: StorageName::read(b"b")?,
+            now: 5,
+        },
+        "snapshot" => Event::Snapshot { job, lease },
+        "apply" => Event::Apply { job, lease },
+        "remove" => Event::Remove { job, lease },
+        _ => Event::Operation(Op::Ack { job, lease, good }),
+    })
+}
+
 // An event of which no text was read: an operation on the first transaction or the first repository, a
 // stop of the second transaction, or what is asked of the storage `a`.
 fn event(word: &str) -> Result<Event, Fail>
@@ -44,7 +64,8 @@ fn event(word: &str) -> Result<Event, Fail>
         "stop" => Op::Stop { tx: TxId(2) },
         "begin" => Op::Begin { repo },
         "refs" => return Ok(Event::Refs { name, repo }),
-        _ => return Ok(Event::Commit { tx, name }),
+        "commit" => return Ok(Event::Commit { tx, name }),
+        _ => return job_event(word),
     };
     Ok(Event::Operation(op))
 }
@@ -72,6 +93,7 @@ fn step(alloc: Global, world: &mut World, asked: &Event) -> Result<String, Fail>
         Answer::Done => "done",
         Answer::Voted(_) => "vote",
         Answer::Refs(_) => "references",
+        Answer::Snapshot { .. } => "snapshot",
     };
     let mut line = Bytes::new(alloc);
     add_line(&mut line, &answer)?;
@@ -102,6 +124,35 @@ const STEPS: &str = "\
     step refs -> references refs
     act nothing -> bad
     act # nothing -> nothing";
+
+const STEPS_OF_A_JOB: &str = "\
+    step take -> refusal refused UnknownStorage b
+    act storage default a -> before storage 0
+    act storage default b -> before storage 1
+    act health a up -> before ok
+    act health b up -> before ok
+    act create default x.git 1 -> before created 0 lease 1 assigned a
+    act make a 0 1 -> before done
+    act enrol 0 a 1 -> before ok
+    step take -> another nojob
+    act factor 0 2 -> before assigned a b
+    act reconcile -> before jobs 1:update:0:a>b
+    step snapshot -> refusal refused NotOut
+    step done -> refusal refused BadState ready
+    step take -> another job 1 update 0 a>b gen 0 lease 2
+    step apply -> refusal refused NotOut
+    step done -> refusal refused NotAcked
+    step snapshot -> snapshot snapshot 0 0
+    step remove -> refusal refused NotOut
+    step apply -> done done
+    step done -> another completed
+    act apply 1 2 -> before refused Fenced 3";
+
+#[test]
+fn the_steps_of_a_job_are_answered(rt: HostRuntime) -> Result<(), Fail> {
+    let alloc = rt.alloc();
+    play(alloc, &mut World::new(alloc), answer, STEPS_OF_A_JOB)
+}
 
 #[test]
 fn a_step_answers_and_its_reply_has_a_line(rt: HostRuntime) -> Result<(), Fail> {

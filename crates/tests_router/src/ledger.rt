@@ -2,7 +2,8 @@
 
 use crate::words::{lease, repository, storage, storages, text, transaction, words};
 use issued::{Issued, Purpose};
-use px_base::{Gen, Hash, Lease, RepoId, StorageId, TxId};
+use node_calls::Snapshot;
+use px_base::{Gen, Hash, Items, JobId, Lease, RefList, RepoId, StorageId, TxId};
 use std::alloc::Global;
 use std::test::Fail;
 use tests_tables::{play, told};
@@ -27,6 +28,22 @@ fn purpose(alloc: Global, purpose: Option<&Purpose>) -> Result<String, Fail> {
                 answered,
             },
         ) => { Ok(format!(in alloc; "push {} {} {answered}", begun.0, voted(commit))?) }
+        Some(
+            Purpose::Update {
+                job,
+                source,
+                generation,
+                snapshot,
+                answered,
+            },
+        ) => {
+            let (job, source, generation) = (job.0, source.0, generation.0);
+            let kept = snapshot.is_some();
+            Ok(format!(in alloc; "update {job} {source} {generation} {kept} {answered}")?)
+        }
+        Some(Purpose::Delete { job, answered }) => {
+            Ok(format!(in alloc; "delete {} {answered}", job.0)?)
+        }
         None => text(alloc, "-"),
     }
 }
@@ -65,6 +82,23 @@ fn commit(
     Ok(())
 }
 
+// A job that is taken for a storage: an update from a source to a generation, or a removal.
+fn work(
+    issued: &mut Issued,
+    job: JobId,
+    repo: RepoId,
+    on: StorageId,
+    lease: Lease,
+    from: Option<(StorageId, Gen)>,
+) -> Result<(), Fail> {
+    issued.reserve_work(job, repo, on, lease)?;
+    match from {
+        Some((source, generation)) => issued.updates(job, repo, on, lease, source, generation),
+        None => issued.deletes(job, repo, on, lease),
+    }
+    Ok(())
+}
+
 // What is asked of the lease of a repository on a storage.
 fn read(
     alloc: Global,
@@ -78,6 +112,27 @@ fn read(
         "purpose" => purpose(alloc, issued.purpose(repo, on, lease)),
         "is_made" => told(alloc, issued.is_made(repo, on, lease)),
         _ => told(alloc, issued.is_committed(repo, on, lease)),
+    }
+}
+
+// What is asked of a job, and of a lease that may be drawn for it.
+fn read_job(
+    alloc: Global,
+    issued: &Issued,
+    name: &str,
+    job: JobId,
+    repo: RepoId,
+    on: StorageId,
+    lease: Lease,
+) -> Result<String, Fail> {
+    match name {
+        "source" => match issued.source_in(repo, on, lease, job) {
+            Some(source) => Ok(format!(in alloc; "from {}", source.0)?),
+            None => text(alloc, "-"),
+        },
+        "is_kept" => told(alloc, issued.snapshot_in(repo, on, lease, job).is_some()),
+        "is_delete" => told(alloc, issued.is_delete_of(repo, on, lease, job)),
+        _ => told(alloc, issued.is_worked(repo, on, lease, job)),
     }
 }
 
@@ -97,6 +152,32 @@ fn change(alloc: Global, issued: &mut Issued, name: &str, words: &[&str]) -> Res
             let (digit, on) = (digit.parse::<u8>()?, storage(*on)?);
             commit(issued, repository(*repo)?, on, lease(*under)?, digit)?;
         }
+        ("update", [repo, on, under, job, source, newest]) => {
+            let (on, from) = (
+                storage(*on)?,
+                (storage(*source)?, Gen(newest.parse::<u64>()?)),
+            );
+            let job = JobId(job.parse::<u64>()?);
+            work(
+                issued,
+                job,
+                repository(*repo)?,
+                on,
+                lease(*under)?,
+                Some(from),
+            )?;
+        }
+        ("delete", [repo, on, under, job]) => {
+            let (on, job) = (storage(*on)?, JobId(job.parse::<u64>()?));
+            work(issued, job, repository(*repo)?, on, lease(*under)?, None)?;
+        }
+        ("keep", [repo, on, under]) => {
+            let snapshot = Snapshot {
+                refs: RefList::new(alloc),
+                objects: Items::new(alloc),
+            };
+            issued.keep_snapshot(repository(*repo)?, storage(*on)?, lease(*under)?, snapshot);
+        }
         ("answer", [repo, on, under]) => {
             issued.answers(repository(*repo)?, storage(*on)?, lease(*under)?);
         }
@@ -113,9 +194,26 @@ fn pushed(alloc: Global, issued: &Issued, tx: TxId) -> Result<String, Fail> {
     }
 }
 
+// Where the effects of a job go.
+fn worked(alloc: Global, issued: &Issued, job: JobId) -> Result<String, Fail> {
+    match issued.work_of(job) {
+        Some((repo, on)) => Ok(format!(in alloc; "{} at {}", repo.0, on.0)?),
+        None => text(alloc, "-"),
+    }
+}
+
 fn answer(alloc: Global, issued: &mut Issued, name: &str, rest: &str) -> Result<String, Fail> {
     let words = words(alloc, rest)?;
     match (name, words.as_slice()) {
+        ("worked", [job]) => worked(alloc, issued, JobId(job.parse::<u64>()?)),
+        ("source" | "is_kept" | "is_delete" | "is_worked", [repo, on, under, job]) => {
+            let (repo, on, job) = (
+                repository(*repo)?,
+                storage(*on)?,
+                JobId(job.parse::<u64>()?),
+            );
+            read_job(alloc, issued, name, job, repo, on, lease(*under)?)
+        }
         ("pushed", [tx]) => pushed(alloc, issued, transaction(*tx)?),
         ("purpose" | "is_made" | "is_committed", [repo, on, under]) => {
             let (repo, on) = (repository(*repo)?, storage(*on)?);
@@ -186,6 +284,51 @@ const PUSH: &str = "\
 #[test]
 fn a_push_is_kept_with_its_commits_and_their_answers(rt: HostRuntime) -> Result<(), Fail> {
     play(rt.alloc(), &mut Issued::new(rt.alloc()), answer, PUSH)
+}
+
+// An update that is taken twice, from another source the second time, and a removal.
+const JOBS: &str = "\
+    worked 1 -> -
+    keep 0 1 2 -> ok
+    purpose 0 1 2 -> -
+    update 0 1 2 1 0 4 -> ok
+    worked 1 -> 0 at 1
+    worked 2 -> -
+    purpose 0 1 2 -> update 1 0 4 false false
+    source 0 1 2 1 -> from 0
+    source 0 1 2 2 -> -
+    source 0 1 3 1 -> -
+    is_kept 0 1 2 1 -> false
+    keep 0 1 2 -> ok
+    is_kept 0 1 2 1 -> true
+    is_kept 0 1 2 2 -> false
+    is_worked 0 1 2 1 -> false
+    answer 0 1 2 -> ok
+    is_worked 0 1 2 1 -> true
+    is_worked 0 1 2 2 -> false
+    is_delete 0 1 2 1 -> false
+    purpose 0 1 2 -> update 1 0 4 true true
+    update 0 1 3 1 2 5 -> ok
+    worked 1 -> 0 at 1
+    source 0 1 3 1 -> from 2
+    is_kept 0 1 3 1 -> false
+    is_worked 0 1 3 1 -> false
+    is_worked 0 1 2 1 -> true
+    delete 0 3 4 2 -> ok
+    worked 2 -> 0 at 3
+    is_delete 0 3 4 2 -> true
+    is_delete 0 3 4 1 -> false
+    keep 0 3 4 -> ok
+    is_kept 0 3 4 2 -> false
+    source 0 3 4 2 -> -
+    is_made 0 3 4 -> false
+    answer 0 3 4 -> ok
+    is_worked 0 3 4 2 -> true
+    purpose 0 3 4 -> delete 2 true";
+
+#[test]
+fn a_job_is_kept_with_its_snapshots_and_their_answers(rt: HostRuntime) -> Result<(), Fail> {
+    play(rt.alloc(), &mut Issued::new(rt.alloc()), answer, JOBS)
 }
 
 // Three hundred pushes of a repository on each of 64 storages.

@@ -24,27 +24,28 @@ def vote(old, new):
     return hashlib.sha1(f"{old} {new} {REFERENCE}\n".encode()).hexdigest()
 
 
-def make_ready(repositories):
-    for storage in STORAGES:
+def make_ready(repositories, storages=STORAGES, made=STORAGES):
+    """The lines that take storages in and raise them, and that create repositories, which some storages make."""
+    for storage in storages:
         yield f"storage default {storage}"
         yield f"health {storage} up"
     for repo in range(repositories):
-        yield f"create default r{repo}.git {len(STORAGES)}"
-        for storage in STORAGES:
+        yield f"create default r{repo}.git {len(storages)}"
+        for storage in made:
             yield f"make {storage} {repo} 1"
             yield f"enrol {repo} {storage} 1"
 
 
-def push(tx, repo, old):
-    """The lines of a push, and the object that the reference names after it."""
+def push(tx, repo, old, storages=STORAGES):
+    """The lines of a push to these storages, and the object that the reference names after it."""
     content = b"push %d\n" % tx
     new = object_id("blob", content)
     agreed = vote(old, new)
     lines = [f"begin {repo}"]
-    for storage in STORAGES:
+    for storage in storages:
         lines.append(f"prepare {tx} {storage} {old}:{new}:{REFERENCE} with blob:{content.hex()}")
         lines.append(f"cast {tx} {storage} prepared {agreed}")
-    for storage in STORAGES:
+    for storage in storages:
         lines += [f"collect {tx} {storage} 1", f"commit {tx} {storage}", f"cast {tx} {storage} committed {agreed}"]
     return lines + [f"finish {tx}"], new
 

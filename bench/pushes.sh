@@ -10,4 +10,4 @@ if [ ! -x "$program" ]; then
     echo "${0##*/}: first make the program: cd crates/praefect && rt run -- rehearse < stdin" >&2
     exit 2
 fi
-python3 "$bench/pushes.py" "$program" "${1:-20000}"
+python3 -B "$bench/pushes.py" "$program" "${1:-20000}"

@@ -1,5 +1,5 @@
 -- Objects that come together, as those of a push.
-use Rattle.std.specs.Prelude.{◌+◌, ◌&&◌, ℕ, Bool, true, false, List, [], ◌∷◌, if◌then◌else◌, is_some, Option, None, Some}
+use Rattle.std.specs.Prelude.{◌+◌, ◌&&◌, ℕ, Bool, true, false, List, [], ◌∷◌, if◌then◌else◌, Option, None, Some}
 use Rattle.std.specs.BTreeMap.{insert_entry, is_at}
 use Rattle.std.specs.Map.{remove_entry}
 use Rattle.std.specs.Option.{option_map, option_or}
@@ -22,13 +22,6 @@ with_object store object = insert_entry hash_cmp store (own_name object) object
 abbrev pub with_objects : Entries → List GitObject → Entries
 with_objects store [] = store
 with_objects store (object ∷ objects) = with_objects (with_object store object) objects
-
--- the names under which the objects come that the store, with the earlier ones, does not have
-abbrev pub added : Entries → List GitObject → List Hash
-added store [] = []
-added store (object ∷ objects) =
-    if is_some (object_at store (own_name object)) then added (with_object store object) objects
-    else own_name object ∷ added (with_object store object) objects
 
 -- the store without what it has under the id
 abbrev pub without_id : Entries → Hash → Entries

@@ -5,7 +5,7 @@ ghost use Rattle.std.specs.Prelude.{◌≡◌, ℕ, List, [], map, slice_get, fa
 ghost use Rattle.std.specs.List.{Contains};
 ghost use Rattle.px_base.specs.Object.{GitObject};
 ghost use Rattle.px_base.specs.declared.hash.Hash.{Hash};
-ghost use Rattle.objstore.specs.Bundle.{added, bundle_fault, with_objects, without};
+ghost use Rattle.objstore.specs.Bundle.{bundle_fault, with_objects};
 ghost use Rattle.objstore.specs.Entries.{Entries, IsStore, is_among, object_at, object_in, own_name};
 ghost use Rattle.objstore.specs.Reach.{Objects, IsClosed, IsReachable};
 ghost use Rattle.objstore.specs.Reached.{AreReached};
@@ -15,13 +15,6 @@ ghost use Rattle.objstore.specs.Walk.{IsFirstMissing};
 pub fn the_first_missing_id_is_one()
     ensures { (objects : Objects) (tips : List Hash) (id other : Hash)
         → IsFirstMissing objects tips id → IsFirstMissing objects tips other → id ≡ other }
-{}
-
-/// A law: a store without what was added to it is the store that it was.
-pub fn what_was_added_can_be_taken_back()
-    ensures { (store : Entries) (objects : List GitObject) → IsStore store
-        → bundle_fault store 0 objects ≡ None
-        → without (with_objects store objects) (added store objects) ≡ store }
 {}
 
 /// A law: a store to which objects came that may come is a store. Each of them stands there under its

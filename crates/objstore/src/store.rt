@@ -1,8 +1,8 @@
 //! A store of objects.
 
 ghost use Rattle.std.specs.Prelude.{◌≡◌, ◌⊎◌, ◌↔◌, [], length, IfOk, IfErr, IfSome, IsSome, IsTrue, OnOk, OnErr, None};
-ghost use Rattle.std.specs.BTreeMap.{insert_entry, is_at};
-ghost use Rattle.std.specs.Map.{keys_of, remove_entry};
+ghost use Rattle.std.specs.BTreeMap.{insert_entry};
+ghost use Rattle.std.specs.Map.{keys_of};
 ghost use Rattle.std.specs.Option.{option_copied};
 ghost use Rattle.px_base.specs.Hash.{hash_cmp};
 ghost use Rattle.px_base.specs.Object.{IsSmall};
@@ -178,13 +178,6 @@ impl Store {
         ensures small { AreSmall self.now }
     {
         self.objects.get(id)
-    }
-
-    /// Takes the object of that id away, if there is one. Takes no memory.
-    pub fn remove(&mut self, id: &ObjectId)
-        ensures { self.new ≡ remove_entry (is_at (hash_cmp id.now)) self.old }
-    {
-        self.objects.remove(id);
     }
 
     /// How many objects there are.

@@ -75,3 +75,26 @@ refusal_text (refusal.NoCurrentReplica newest current) =
 refusal_text (refusal.Node cause) = node_refusal_text cause
 refusal_text refusal.NotOut = codes "NotOut"
 refusal_text refusal.NotAcked = codes "NotAcked"
+
+-- the refusal says more than its name
+abbrev pub HasFields : Refusal → Type 0
+HasFields refusal.UnknownRepo = ⊥
+HasFields refusal.TooManyStorages = ⊥
+HasFields refusal.TooManyRepositories = ⊥
+HasFields refusal.NoVoters = ⊥
+HasFields refusal.TransactionsSpent = ⊥
+HasFields refusal.Finished = ⊥
+HasFields refusal.Canceled = ⊥
+HasFields refusal.Stopped = ⊥
+HasFields refusal.Decided = ⊥
+HasFields refusal.IsPush = ⊥
+HasFields refusal.NotAPush = ⊥
+HasFields refusal.StillOpen = ⊥
+HasFields refusal.LeasesSpent = ⊥
+HasFields refusal.GenerationsSpent = ⊥
+HasFields refusal.NotMaking = ⊥
+HasFields refusal.NotBooked = ⊥
+HasFields refusal.NotInDoubt = ⊥
+HasFields refusal.NotOut = ⊥
+HasFields refusal.NotAcked = ⊥
+HasFields other = Unit {0}

@@ -1,8 +1,8 @@
 //! The texts of refusals.
 
-ghost use Rattle.std.specs.Prelude.{◌≡◌, ◌++◌, OnOk};
+ghost use Rattle.std.specs.Prelude.{◌≡◌, ◌++◌, IfNone, IfSome, OnOk};
 ghost use Rattle.px_ops.specs.Fields.{number_field};
-ghost use Rattle.px_ops.specs.RefusalTexts.{node_refusal_text, refusal_text};
+ghost use Rattle.px_ops.specs.RefusalTexts.{HasFields, node_refusal_text, refusal_text};
 
 use crate::fields::{Added, add, add_hash, add_name, add_number};
 use crate::job_text::state_word;
@@ -61,51 +61,64 @@ fn add_unknown_storage(text: &mut Bytes, name: Option<StorageName>) -> Added
     }
 }
 
-/// Adds the text of a refusal: its name and its fields, without the word `refused`.
-pub fn add_refusal(text: &mut Bytes, refusal: &Refusal) -> Result<(), AllocError>
+// The name of a refusal that has no field.
+fn plain_word(refusal: &Refusal) -> Option<&'static [u8]>
+    ensures some { IfSome result (λ word. word.now ≡ refusal_text refusal.now) }
+    ensures none { IfNone result (HasFields refusal.now) }
+{
+    match refusal {
+        Refusal::UnknownRepo => Some(b"UnknownRepo"),
+        Refusal::TooManyStorages => Some(b"TooManyStorages"),
+        Refusal::TooManyRepositories => Some(b"TooManyRepositories"),
+        Refusal::NoVoters => Some(b"NoVoters"),
+        Refusal::TransactionsSpent => Some(b"TransactionsSpent"),
+        Refusal::Finished => Some(b"Finished"),
+        Refusal::Canceled => Some(b"Canceled"),
+        Refusal::Stopped => Some(b"Stopped"),
+        Refusal::Decided => Some(b"Decided"),
+        Refusal::IsPush => Some(b"IsPush"),
+        Refusal::NotAPush => Some(b"NotAPush"),
+        Refusal::StillOpen => Some(b"StillOpen"),
+        Refusal::LeasesSpent => Some(b"LeasesSpent"),
+        Refusal::GenerationsSpent => Some(b"GenerationsSpent"),
+        Refusal::NotMaking => Some(b"NotMaking"),
+        Refusal::NotBooked => Some(b"NotBooked"),
+        Refusal::NotInDoubt => Some(b"NotInDoubt"),
+        Refusal::NotOut => Some(b"NotOut"),
+        Refusal::NotAcked => Some(b"NotAcked"),
+        _ => None,
+    }
+}
+
+// Adds the text of a refusal that has fields.
+fn add_with_fields(text: &mut Bytes, refusal: &Refusal) -> Added
+    requires { HasFields refusal.now }
     ensures { OnOk result (text.new ≡ text.old ++ refusal_text refusal.now) }
 {
     match refusal {
-        Refusal::UnknownRepo => add(text, b"UnknownRepo"),
         Refusal::UnknownStorage(name) => add_unknown_storage(text, *name),
         Refusal::UnknownVirtual(name) => add_name(text, b"UnknownVirtual ", name.as_bytes()),
         Refusal::Exists(repo) => add_number(text, b"Exists ", u64::from(repo.0)),
         Refusal::StorageExists(id) => add_number(text, b"StorageExists ", u64::from(id.0)),
-        Refusal::TooManyStorages => add(text, b"TooManyStorages"),
-        Refusal::TooManyRepositories => add(text, b"TooManyRepositories"),
         Refusal::BadFactor(n) => add_number(text, b"BadFactor ", u64::from(*n)),
-        Refusal::NoVoters => add(text, b"NoVoters"),
         Refusal::TooManyVoters(n) => add_number(text, b"TooManyVoters ", *n as u64),
         Refusal::DuplicateVoter(name) => add_name(text, b"DuplicateVoter ", name.as_bytes()),
         Refusal::BadThreshold { total, threshold } => {
             add_numbers(text, b"BadThreshold", *total, *threshold)
         }
         Refusal::BadRounds(n) => add_number(text, b"BadRounds ", u64::from(*n)),
-        Refusal::TransactionsSpent => add(text, b"TransactionsSpent"),
         Refusal::UnknownTx(tx) => add_number(text, b"UnknownTx ", tx.0),
         Refusal::NotAVoter(name) => add_name(text, b"NotAVoter ", name.as_bytes()),
-        Refusal::Finished => add(text, b"Finished"),
         Refusal::WrongPhase(due) => add_name(text, b"WrongPhase ", phase_word(*due)),
-        Refusal::Canceled => add(text, b"Canceled"),
-        Refusal::Stopped => add(text, b"Stopped"),
         Refusal::AlreadyVoted(hash) => add_hash(text, b"AlreadyVoted ", hash),
-        Refusal::Decided => add(text, b"Decided"),
         Refusal::NoSub(sub) => add_number(text, b"NoSub ", u64::from(*sub)),
-        Refusal::IsPush => add(text, b"IsPush"),
-        Refusal::NotAPush => add(text, b"NotAPush"),
-        Refusal::StillOpen => add(text, b"StillOpen"),
         Refusal::Turn(tx) => add_number(text, b"Turn ", tx.0),
         Refusal::ReadOnly { newest, current } => {
             add_numbers(text, b"ReadOnly", newest.0, u64::from(*current))
         }
-        Refusal::LeasesSpent => add(text, b"LeasesSpent"),
-        Refusal::GenerationsSpent => add(text, b"GenerationsSpent"),
         Refusal::LeaseLost { kept, given } => {
             add_numbers(text, b"LeaseLost", kept.number(), given.number())
         }
-        Refusal::NotMaking => add(text, b"NotMaking"),
-        Refusal::NotBooked => add(text, b"NotBooked"),
-        Refusal::NotInDoubt => add(text, b"NotInDoubt"),
         Refusal::UnknownJob(job) => add_number(text, b"UnknownJob ", job.0),
         Refusal::BadState(state) => add_name(text, b"BadState ", state_word(*state)),
         Refusal::InFlight(tx) => add_number(text, b"InFlight ", tx.0),
@@ -113,7 +126,16 @@ pub fn add_refusal(text: &mut Bytes, refusal: &Refusal) -> Result<(), AllocError
             add_numbers(text, b"NoCurrentReplica", newest.0, u64::from(*current))
         }
         Refusal::Node(cause) => add_node_refusal(text, cause),
-        Refusal::NotOut => add(text, b"NotOut"),
-        Refusal::NotAcked => add(text, b"NotAcked"),
+        _ => unreachable!(),
+    }
+}
+
+/// Adds the text of a refusal: its name and its fields, without the word `refused`.
+pub fn add_refusal(text: &mut Bytes, refusal: &Refusal) -> Result<(), AllocError>
+    ensures { OnOk result (text.new ≡ text.old ++ refusal_text refusal.now) }
+{
+    match plain_word(refusal) {
+        Some(word) => add(text, word),
+        None => add_with_fields(text, refusal),
     }
 }

@@ -1,14 +1,11 @@
 -- The names of these refusals are long texts, which are written out.
-use Rattle.px_ops.proofs.refusal_text.add_refusal.Goals as goal
+use Rattle.px_ops.proofs.refusal_text.add_with_fields.Goals as goal
 
 pub returns-in-UnknownVirtual : goal.returns-in-UnknownVirtual
 returns-in-UnknownVirtual c = rw (c.in-UnknownVirtual.is, ← c.as_bytes.ensures) c.add_name.ensures
 
 pub returns-in-StorageExists : goal.returns-in-StorageExists
 returns-in-StorageExists c = rw (c.in-StorageExists.is, ← c.from-in-StorageExists.ensures) c.add_number-in-StorageExists.ensures
-
-pub returns-in-TooManyStorages : goal.returns-in-TooManyStorages
-returns-in-TooManyStorages c = rw c.in-TooManyStorages.is c.add-in-TooManyStorages.ensures
 
 pub returns-in-TooManyVoters : goal.returns-in-TooManyVoters
 returns-in-TooManyVoters c = rw c.in-TooManyVoters.is c.add_number-in-TooManyVoters.ensures
@@ -18,9 +15,3 @@ returns-in-DuplicateVoter c = rw (c.in-DuplicateVoter.is, ← c.as_bytes-in-Dupl
 
 pub returns-in-BadThreshold : goal.returns-in-BadThreshold
 returns-in-BadThreshold c = rw c.in-BadThreshold.is c.add_numbers.ensures
-
-pub returns-in-LeasesSpent : goal.returns-in-LeasesSpent
-returns-in-LeasesSpent c = rw c.in-LeasesSpent.is c.add-in-LeasesSpent.ensures
-
-pub returns-in-GenerationsSpent : goal.returns-in-GenerationsSpent
-returns-in-GenerationsSpent c = rw c.in-GenerationsSpent.is c.add-in-GenerationsSpent.ensures

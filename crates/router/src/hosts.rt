@@ -1,7 +1,8 @@
-//! The storages on which a push may be done.
+//! The storages on which a push may be done, and those that are current.
 
 ghost use Rattle.std.specs.Prelude.{◌≡◌, Some};
 ghost use Rattle.px_cluster.specs.Book.{is_newest};
+ghost use Rattle.px_cluster.specs.Core.{is_current};
 ghost use Rattle.px_cluster.specs.Ids.{storage_number};
 ghost use Rattle.px_cluster.specs.Members.{hosts, is_host, kept_or_first, primary_of};
 ghost use Rattle.px_cluster.specs.Numbers.{first_of, is_one_of};
@@ -28,7 +29,14 @@ pub fn primary(repository: &Repository, health: &Health) -> Option<StorageId>
 pub(crate) fn is_host(repository: &Repository, health: &Health, replica: &Replica) -> bool
     ensures { result ≡ is_host (core_with_health health.now) repository.now replica.now }
 {
-    replica.assigned && health.is_up(replica.storage) && is_newest(repository, replica)
+    replica.assigned && is_current(repository, health, replica)
+}
+
+/// Whether the storage is up, and at the newest generation.
+pub(crate) fn is_current(repository: &Repository, health: &Health, replica: &Replica) -> bool
+    ensures { result ≡ is_current (core_with_health health.now) repository.now replica.now }
+{
+    health.is_up(replica.storage) && is_newest(repository, replica)
 }
 
 /// How many replicas are at the newest generation, on storages that are up or not.

@@ -24,16 +24,16 @@ use Rattle.genbook.specs.Changes.{numbers_of}
 use Rattle.genbook.specs.Rules.{DrawsForMembers}
 use Rattle.replqueue.specs.Queue.{Queued}
 use Rattle.px_core.specs.Beginning.{IsBeginning, IsPlanned, IsTold, spent}
-use Rattle.px_core.specs.Parts.{core_with, no_reads}
+use Rattle.px_core.specs.Parts.{core_with}
 use Rattle.px_core.specs.declared.pushes.Beginning.{Beginning}
-use Rattle.px_core.proofs.Tables.{reads_set}
 
 -- ---- the core with the push
 
 module _ (books new : Books) (up : List Bool) (votes : Registry) (last : ℕ)
-    (pushes : List OpenPush) (queue : Queued) (repo : ℕ) (book : Repository) where
+    (pushes : List OpenPush) (reads : List ℕ) (queue : Queued) (repo : ℕ)
+    (book : Repository) where
   abbrev core : Core
-  core = core_with books up votes last pushes queue
+  core = core_with books up votes last pushes reads queue
 
   abbrev begins : OpenPush
   begins = beginning core repo book
@@ -45,7 +45,7 @@ module _ (books new : Books) (up : List Bool) (votes : Registry) (last : ℕ)
       → registered ≡ with_registered votes tx (voting_on panel 1)
       → panel ≡ panel_of core begins.members → tx ≡ begins.tx
       → open_ ≡ pushes ++ push ∷ [] → push ≡ begins
-      → core_with new up registered tx.0 open_ queue ≡ with_begun begins book core
+      → core_with new up registered tx.0 open_ reads queue ≡ with_begun begins book core
   begun_is entry panel tx push registered open_ put entry_is votes_are panel_is tx_is pushes_are
       push_is =
       let storages : new.storages ≡ books.storages = ap (λ (c : Core). c.storages) put in
@@ -53,9 +53,6 @@ module _ (books new : Books) (up : List Bool) (votes : Registry) (last : ℕ)
       ≡ set books.repositories repo (drawn_for_members begins book) =
       ap (λ (c : Core). c.repositories) put
       ∙ ap (λ (e : Repository). set books.repositories repo e) entry_is in
-      let reads : no_reads new.repositories ≡ no_reads books.repositories =
-      ap no_reads repositories
-      ∙ reads_set books.repositories repo (drawn_for_members begins book) in
       let transactions : registered
       ≡ with_registered votes begins.tx (voting_on (panel_of core begins.members) 1) =
       votes_are ∙ ap (λ (t : TxId). with_registered votes t (voting_on panel 1)) tx_is
@@ -65,7 +62,6 @@ module _ (books new : Books) (up : List Bool) (votes : Registry) (last : ℕ)
       λ i. record core {
         storages = storages i;
         repositories = repositories i;
-        reads = reads i;
         last_tx = (tx_is i).0;
         transactions = transactions i;
         pushes = opened i;

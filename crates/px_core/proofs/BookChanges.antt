@@ -29,7 +29,7 @@ set_twice [] i x y = refl
 set_twice (z ∷ zs) zero x y = refl
 set_twice (z ∷ zs) (suc i) x y = ap (λ rest. z ∷ rest) (set_twice zs i x y)
 
-got_set : {A : Type 0} (xs : List A) (i : ℕ) (x y : A) → slice_get xs i ≡ Some x
+pub got_set : {A : Type 0} (xs : List A) (i : ℕ) (x y : A) → slice_get xs i ≡ Some x
     → slice_get (set xs i y) i ≡ Some y
 got_set [] i x y there = absurd (let none : None ≡ Some x = there in cc)
 got_set (z ∷ zs) zero x y there = refl
@@ -61,29 +61,29 @@ becomes_twice repo one other old mid new first then_ =
 -- ---- the end of a job
 
 module _ (old new : Books) (up : List Bool) (votes : Registry) (last : ℕ) (pushes : List OpenPush)
-    (queue made : Queued) where
+    (reads : List ℕ) (queue made : Queued) where
   abbrev before : Core
-  before = core_with old up votes last pushes queue
+  before = core_with old up votes last pushes reads queue
 
   abbrev after_ : Core
-  after_ = core_with new up votes last pushes made
+  after_ = core_with new up votes last pushes reads made
 
   -- the queue without the job, or with its bad end, and the book with what is booked
   pub ended_in : (good : Bool) (job : Option Job) → Ends good job old new
       → jobs_of made ≡ ended_job good job (jobs_of queue) → after_ ≡ ended_job good job before
   ended_in good None books jobs =
-      queue_in new up votes last pushes queue made queue.jobs queue.last jobs
-      ∙ same_in old new up votes last pushes queue books
+      queue_in new up votes last pushes reads queue made queue.jobs queue.last jobs
+      ∙ same_in old new up votes last pushes reads queue books
   ended_in true (Some job) books jobs = by job.kind books jobs
     where
       by : (kind : JobKind) → core_of new ≡ with_end_booked job kind (core_of old)
           → jobs_of made ≡ with_end_booked job kind (without_job job.number (jobs_of queue))
           → after_ ≡ with_end_booked job kind (without_job job.number before)
       by Update booked_ jobs_ =
-          queue_in new up votes last pushes queue made
+          queue_in new up votes last pushes reads queue made
           (without_job job.number (jobs_of queue)).jobs queue.last jobs_
           ∙ ap (λ (c : Core). without_job job.number c)
-          (changed_in old new up votes last pushes queue job.repo.0
+          (changed_in old new up votes last pushes reads queue job.repo.0
           (with_replica_on job.target.0 (booked (At job.generation))) booked_)
           ∙ apart (repository before job.repo.0)
         where
@@ -96,15 +96,15 @@ module _ (old new : Books) (up : List Bool) (votes : Registry) (last : ℕ) (pus
           apart None = refl
           apart (Some book) = refl
       by Delete booked_ jobs_ =
-          queue_in new up votes last pushes queue made
+          queue_in new up votes last pushes reads queue made
           (without_job job.number (jobs_of queue)).jobs queue.last jobs_
           ∙ ap (λ (c : Core). without_job job.number c)
-          (same_in old new up votes last pushes queue booked_)
+          (same_in old new up votes last pushes reads queue booked_)
   ended_in false (Some job) books jobs =
-      queue_in new up votes last pushes queue made
+      queue_in new up votes last pushes reads queue made
       (with_job_changed job.number failed (jobs_of queue)).jobs queue.last jobs
       ∙ ap (λ (c : Core). with_job_changed job.number failed c)
-      (same_in old new up votes last pushes queue books)
+      (same_in old new up votes last pushes reads queue books)
 
   -- where the worker is heard, that is what its end leaves
   pub ack_leads : (job : JobId) (lease : ℕ) (good : Bool) (row : Option Job)
@@ -116,13 +116,14 @@ module _ (old new : Books) (up : List Bool) (votes : Registry) (last : ℕ) (pus
 
 -- the repository of each job is on the book
 module _ (books : Books) (up : List Bool) (votes : Registry) (last : ℕ) (pushes : List OpenPush)
-    (queue : Queued) (sound : IsSound (core_with books up votes last pushes queue)) where
+    (reads : List ℕ) (queue : Queued)
+    (sound : IsSound (core_with books up votes last pushes reads queue)) where
   pub on_record : (number : ℕ)
-      → IsOnRecord books (job_at (core_with books up votes last pushes queue) number)
-  on_record number = by (job_at (core_with books up votes last pushes queue) number) refl
+      → IsOnRecord books (job_at (core_with books up votes last pushes reads queue) number)
+  on_record number = by (job_at (core_with books up votes last pushes reads queue) number) refl
     where
       by : (there : Option Job)
-          → job_at (core_with books up votes last pushes queue) number ≡ there
+          → job_at (core_with books up votes last pushes reads queue) number ≡ there
           → IsOnRecord books there
       by None is = tt
       by (Some job) is =

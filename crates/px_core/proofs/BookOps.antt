@@ -1,7 +1,8 @@
 -- What an admission and a creation make of the core, and that the storages are known that they
 -- name, and those that the replicas of a repository are on.
-use Rattle.std.proofs.Common.{◌≡◌, ◌∙◌, ◌<◌, ◌==◌, ◌+◌, ◌++◌, ℕ, List, [], ◌∷◌, Bool, true, false, if◌then◌else◌, Option, None, Some, refl, sym, ap, subst, length, map, take, arith}
+use Rattle.std.proofs.Common.{◌≡◌, ◌∙◌, ◌<◌, ◌==◌, ◌+◌, ◌++◌, ℕ, List, [], ◌∷◌, Bool, true, false, if◌then◌else◌, Option, None, Some, IfSome, refl, sym, ap, subst, length, map, nat_lt, take, unwrap_or, arith}
 use Rattle.std.specs.List.{AllByRecursion}
+use Rattle.std.proofs.lemmas.Bool.Decides.{nat_tests}
 use Rattle.px_base.specs.declared.ids.StorageId.{StorageId}
 use Rattle.px_ops.specs.declared.op.Op.{Op}
 use Rattle.px_ops.specs.declared.op.Op.TheVariants as op
@@ -11,8 +12,9 @@ use Rattle.px_ops.specs.declared.reply.Reply.TheVariants as reply
 use Rattle.txmanager.specs.Registry.{Registry}
 use Rattle.px_cluster.specs.Book.{Replica, Repository, Storage, is_of, storages_of}
 use Rattle.px_cluster.specs.Core.{Core, OpenPush, names_of}
-use Rattle.px_cluster.specs.Creating.{admit_refusal, admitted, assigned_for, before_create, create_refusal, created, created_on, factor_for, found, with_created, with_storage}
+use Rattle.px_cluster.specs.Creating.{admit_refusal, admitted, assigned_for, before_create, create_refusal, created, created_on, factor_for, found, is_at_path, with_created}
 use Rattle.px_cluster.specs.Ids.{repo_id, storage_id}
+use Rattle.px_cluster.specs.Numbers.{first_of, places_of}
 use Rattle.px_cluster.specs.Ops.{left_by, next_core, unless_refused}
 use Rattle.cluster_form.specs.Books.{IsDense}
 use Rattle.cluster_form.proofs.Lists.{all_such, choose}
@@ -26,35 +28,41 @@ use Rattle.genbook.specs.Health.{Reachable, with_one_down}
 use Rattle.genbook.specs.declared.admission.Admission.{Admission}
 use Rattle.genbook.specs.declared.creation.Creation.{Creation}
 use Rattle.replqueue.specs.Queue.{Queued}
-use Rattle.px_core.specs.Parts.{core_with, no_reads}
-use Rattle.px_core.specs.Served.{IsServed}
+use Rattle.px_core.specs.Parts.{core_with}
+use Rattle.px_core.specs.Routing.{with_count}
 use Rattle.px_core.specs.Sound.{IsSound}
 use Rattle.px_core.specs.Steps.{IsDone}
 use Rattle.px_core.proofs.ByNumbers.{known_by_numbers}
 use Rattle.px_core.proofs.Kept.{kept}
-use Rattle.px_core.proofs.Tables.{reads_set}
 
 -- ---- an operation that is done
 
 -- it leaves the core sound
-pub done_sound : (core new : Core) (asked : Op) (answer : Reply) → IsServed asked → IsSound core
+pub done_sound : (core new : Core) (asked : Op) (answer : Reply) → IsSound core
     → IsDone core asked answer new → IsSound new
-done_sound core new asked answer served sound done =
+done_sound core new asked answer sound done =
     let leads : next_core core asked ≡ left_by core asked =
     ap (λ (why : Option Refusal). unless_refused why core (left_by core asked)) done.accepted in
-    subst IsSound (leads ∙ sym done.leads) (kept core asked served sound)
+    subst IsSound (leads ∙ sym done.leads) (kept core asked sound)
 
--- ---- counts of reads
+-- ---- numbers that are below another
 
-reads_mapped : (change : Repository → Repository) (repositories : List Repository)
-    → no_reads (map change repositories) ≡ no_reads repositories
-reads_mapped change [] = refl
-reads_mapped change (r ∷ rs) = ap (λ ns. 0 ∷ ns) (reads_mapped change rs)
+below : (n m : ℕ) → n < m → nat_lt n m ≡ true
+below n m within = grind (arith, nat_tests, within)
 
-reads_added : (repositories : List Repository) (entry : Repository)
-    → no_reads (repositories ++ entry ∷ []) ≡ no_reads repositories ++ 0 ∷ []
-reads_added [] entry = refl
-reads_added (r ∷ rs) entry = ap (λ ns. 0 ∷ ns) (reads_added rs entry)
+not_below : (n m : ℕ) → n ≡ m → nat_lt n m ≡ false
+not_below n m same = grind (arith, nat_tests, same)
+
+-- a repository that is found is on the book
+first_within : (test : Repository → Bool) (repositories : List Repository)
+    → IfSome (first_of (places_of test repositories)) (λ place. place < length repositories)
+first_within test repositories = by (places_of test repositories)
+    (places_within 0 test repositories)
+  where
+    by : (places : List ℕ) → AllByRecursion (λ place. place < 0 + length repositories) places
+        → IfSome (first_of places) (λ place. place < length repositories)
+    by [] all = tt
+    by (place ∷ places) all = let first = all.0 in omega (arith, first)
 
 -- ---- storages that are known
 
@@ -102,9 +110,10 @@ replicas_known storages repo dense = by repo.replicas
 -- ---- an admission and a creation
 
 module _ (old mid new : Books) (up : List Bool) (votes : Registry) (last : ℕ)
-    (pushes : List OpenPush) (queue : Queued) (same : core_of mid ≡ core_of old) where
+    (pushes : List OpenPush) (reads : List ℕ) (queue : Queued)
+    (same : core_of mid ≡ core_of old) where
   abbrev before : Core
-  before = core_with old up votes last pushes queue
+  before = core_with old up votes last pushes reads queue
 
   -- the storage is on the book, and down
   pub admit_done : (virt name : List ℕ) (admission : Admission) (prepared added : Reachable)
@@ -114,16 +123,13 @@ module _ (old mid new : Books) (up : List Bool) (votes : Registry) (last : ℕ)
       → new.repositories ≡ (admitted admission.virt admission.name (core_of mid)).repositories
       → prepared.up ≡ up → prepared.ready ≡ true → added ≡ with_one_down prepared
       → IsDone before (op.Admit virt name) (reply.Storage admission.storage)
-      (core_with new added.up votes last pushes queue)
+      (core_with new added.up votes last pushes reads queue)
   admit_done virt name admission prepared added is none storages_are repositories_are up_is ready
       down =
       let storages : new.storages ≡ (admitted virt name before).storages =
       storages_are ∙ λ i. (admitted (is.virt_is i) (is.name_is i) (same i)).storages in
       let repositories : new.repositories ≡ (admitted virt name before).repositories =
       repositories_are ∙ λ i. (admitted (is.virt_is i) (is.name_is i) (same i)).repositories in
-      let reads : no_reads new.repositories ≡ no_reads old.repositories =
-      ap no_reads repositories
-      ∙ reads_mapped (with_storage virt (length old.storages)) old.repositories in
       let health : added.up ≡ up ++ false ∷ [] = ap (λ (h : Reachable). h.up) down
       ∙ λ i. if ready i then up_is i ++ false ∷ [] else up_is i in
       record {
@@ -132,25 +138,37 @@ module _ (old mid new : Books) (up : List Bool) (votes : Registry) (last : ℕ)
         leads = λ i. record before {
           storages = storages i;
           repositories = repositories i;
-          reads = reads i;
           health = health i;
         };
       }
 
-  -- the book with the entry of a creation, under the number that is found, or the next one
-  create_leads : (at : Option ℕ) (entry : Repository) → new.storages ≡ old.storages
+  -- the book with the entry of a creation, and its count of reads, under the number that is found,
+  -- or the next one
+  create_leads : (at : Option ℕ) (entry : Repository) (counts : List ℕ)
+      → new.storages ≡ old.storages
       → new.repositories ≡ (with_created at entry (core_of old)).repositories
-      → core_with new up votes last pushes queue ≡ with_created at entry before
-  create_leads None entry storages repositories = λ i. record before {
+      → counts ≡ (with_created at entry before).reads
+      → core_with new up votes last pushes counts queue ≡ with_created at entry before
+  create_leads None entry counts storages repositories counted = λ i. record before {
     storages = storages i;
     repositories = repositories i;
-    reads = (ap no_reads repositories ∙ reads_added old.repositories entry) i;
+    reads = counted i;
   }
-  create_leads (Some repo) entry storages repositories = λ i. record before {
+  create_leads (Some repo) entry counts storages repositories counted = λ i. record before {
     storages = storages i;
     repositories = repositories i;
-    reads = (ap no_reads repositories ∙ reads_set old.repositories repo entry) i;
+    reads = counted i;
   }
+
+  -- a repository that is found has a count, and the next one has none
+  count_made : length reads ≡ length old.repositories → (at : Option ℕ) (entry : Repository)
+      (number : ℕ) → number ≡ unwrap_or at (length old.repositories)
+      → IfSome at (λ n. n < length old.repositories)
+      → with_count number reads ≡ (with_created at entry before).reads
+  count_made as_many None entry number is within =
+      rw (not_below number (length reads) (is ∙ sym as_many)) refl
+  count_made as_many (Some repo) entry number is within =
+      rw (below number (length reads) (omega (arith, is, within, as_many))) refl
 
   -- the repository is on the book
   pub create_done : (virt path : List ℕ) (factor : ℕ) (creation : Creation)
@@ -160,9 +178,12 @@ module _ (old mid new : Books) (up : List Bool) (votes : Registry) (last : ℕ)
       → new.repositories ≡ (created v p f (core_of mid)).repositories)
       → new.storages ≡ mid.storages
       → names ≡ names_of (core_of mid) (numbers_of creation.assigned)
+      → length reads ≡ length old.repositories → (counts : List ℕ)
+      → counts ≡ with_count creation.repo.0 reads
       → IsDone before (op.Create virt path factor)
-      (reply.Created creation.repo creation.lease names) (core_with new up votes last pushes queue)
-  create_done virt path factor creation names is none becomes stay named =
+      (reply.Created creation.repo creation.lease names)
+      (core_with new up votes last pushes counts queue)
+  create_done virt path factor creation names is none becomes stay named as_many counts counted =
       let storages : new.storages ≡ old.storages = stay ∙ ap (λ (c : Core). c.storages) same in
       let repositories : new.repositories ≡ (created virt path factor (core_of old)).repositories =
       becomes virt path factor
@@ -175,5 +196,7 @@ module _ (old mid new : Books) (up : List Bool) (votes : Registry) (last : ℕ)
         answers = λ i. reply.Created (repo_id (is.number i)) (is.lease i) (names_are i);
         leads = create_leads (found before virt path)
             (created_on (assigned_for before virt factor) (before_create before virt path))
-            storages repositories;
+            counts storages repositories
+            (counted ∙ count_made as_many (found before virt path) _ creation.repo.0 is.number
+            (first_within (is_at_path virt path) old.repositories));
       }

@@ -131,11 +131,11 @@ module _ (core : Core) (tx : TxId) (name : List ℕ) (phase : Phase) (hash : Has
 -- ---- a vote that was counted in copies
 
 module _ (books new : Books) (up : List Bool) (votes : Registry) (last : ℕ)
-    (pushes : List OpenPush) (queue : Queued) (tx : TxId) (name : List ℕ) (phase : Phase)
-    (hash : Hash)
+    (pushes : List OpenPush) (reads : List ℕ) (queue : Queued) (tx : TxId) (name : List ℕ)
+    (phase : Phase) (hash : Hash)
     (push : OpenPush) (plan : Counting) where
   abbrev core : Core
-  core = core_with books up votes last pushes queue
+  core = core_with books up votes last pushes reads queue
 
   module _ (of_tx : push_of core tx ≡ Some push) (same : push.tx ≡ tx)
       (is : IsCounted core push name phase hash plan) where
@@ -146,7 +146,7 @@ module _ (books new : Books) (up : List Bool) (votes : Registry) (last : ℕ)
     pub counted_leads : (transactions : Registry) (repo : ℕ)
         → transactions ≡ with_transaction votes tx (Some plan.then) → repo ≡ push.repo
         → core_of new ≡ with_repository repo plan.entry (core_of books)
-        → core_with new up transactions last pushes queue
+        → core_with new up transactions last pushes reads queue
         ≡ left_by core (op.Cast tx name phase hash)
     counted_leads transactions repo votes_are repo_is put =
         let counted_ : transactions
@@ -156,9 +156,9 @@ module _ (books new : Books) (up : List Bool) (votes : Registry) (last : ℕ)
         ≡ booked_by push name phase hash is.votes (after_cast name phase hash is.votes) is.book =
         is.entry ∙ ap (λ (v : Voting). booked_by push name phase hash is.votes v is.book)
         is.then_ in
-        put_in books new up transactions last pushes queue repo plan.entry put
+        put_in books new up transactions last pushes reads queue repo plan.entry put
         ∙ (λ i. with_repository (repo_is i) (entry_is i)
-        (core_with books up (counted_ i) last pushes queue))
+        (core_with books up (counted_ i) last pushes reads queue))
         ∙ push_leads core tx name phase hash push is.votes is.book of_tx voted is.there
 
     -- .. and it is answered so

@@ -51,22 +51,23 @@ bad_refuses core repo factor book (Some why) there free bad = rw there (rw free 
 -- ---- a factor that is set
 
 module _ (old new : Books) (up : List Bool) (votes : Registry) (last : ℕ)
-    (pushes : List OpenPush) (queue : Queued) where
+    (pushes : List OpenPush) (reads : List ℕ) (queue : Queued) where
   abbrev before : Core
-  before = core_with old up votes last pushes queue
+  before = core_with old up votes last pushes reads queue
 
   pub set_factor_done : (repo : RepoId) (factor : ℕ) (storages : List ℕ) (names : List (List ℕ))
       → IsSound before → IsAssignment before repo.0 factor storages
       → names ≡ names_of (core_of old) storages → Becomes repo.0 (assigned_to storages) old new
       → IsDone before (op.SetFactor repo factor) (reply.Assigned names)
-      (core_with new up votes last pushes queue)
+      (core_with new up votes last pushes reads queue)
   set_factor_done repo factor storages names sound is named becomes = record {
     accepted = is.accepted;
     answers = ap (λ (ns : List (List ℕ)). reply.Assigned ns)
         (named ∙ ap (names_of before) is.by_rule)
         ∙ ap (λ (there : Option Repository). about there
         (λ book. reply.Assigned (names_of before (assignment before book factor)))) (sym is.there);
-    leads = changed_in old new up votes last pushes queue repo.0 (assigned_to storages) becomes
+    leads = changed_in old new up votes last pushes reads queue repo.0 (assigned_to storages)
+        becomes
         ∙ ap (λ (ns : List ℕ). with_book_changed repo.0 (assigned_to ns) before) is.by_rule
         ∙ book_reassigned before is.book factor
         (by_number before sound repo.0 is.book is.there) before repo.0 is.there;

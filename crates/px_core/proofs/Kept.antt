@@ -16,10 +16,10 @@ use Rattle.txmanager.specs.VoterCalls.{after_cast}
 use Rattle.txmanager.specs.Voting.{Voting}
 use Rattle.px_cluster.specs.Book.{Repository, Storage, is_of, storages_of}
 use Rattle.px_cluster.specs.Casts.{booked_by, cast_on, with_cast_booked}
-use Rattle.px_cluster.specs.Core.{Core, OpenPush, empty, job_at, push_of, repository, turn_of, voting, with_repository_by}
+use Rattle.px_cluster.specs.Core.{Core, OpenPush, empty, job_at, push_of, repository, turn_of, voting, with_book_changed, with_repository_by}
 use Rattle.px_cluster.specs.Creating.{admit_refusal, found, has_name, with_created}
 use Rattle.px_cluster.specs.Ids.{storage_id}
-use Rattle.px_cluster.specs.Jobs.{ended_job, with_end_booked, without_job}
+use Rattle.px_cluster.specs.Jobs.{ended_job, with_end_booked, without_job, without_running}
 use Rattle.px_cluster.specs.Numbers.{first_of, places_from, places_of}
 use Rattle.px_cluster.specs.Ops.{left_by, next_core, refusal_of, unless_refused}
 use Rattle.px_cluster.specs.Pushes.{begin_refusal, begun_at, read_only, turn_taken}
@@ -33,7 +33,6 @@ use Rattle.cluster_form.proofs.PushLists.{pushes_left}
 use Rattle.cluster_form.proofs.TurnsKept.{first_holds, not_caused}
 use Rattle.cluster_form.specs.Left.{AreLeft}
 use Rattle.px_core.specs.Few.{AreFew}
-use Rattle.px_core.specs.Served.{IsServed}
 use Rattle.px_core.specs.Sound.{AreBegun, IsSound}
 
 -- ---- storages
@@ -143,45 +142,54 @@ module _ (core : Core) (few : AreFew core) where
   as_before new same virt =
       subst (λ (s : List Storage). length (storages_of s virt) ≤ 64) (sym same) (few virt)
 
-  few_left : (asked : Op) → IsServed asked → refusal_of core asked ≡ None
-      → AreFew (left_by core asked)
-  few_left (op.Admit virt name) served none = few_more core virt name none few
-  few_left (op.Health storage up) served none = few
-  few_left (op.Open threshold rounds voters) served none = few
-  few_left (op.Cast tx name phase hash) served none = as_before
+  same_lifted : (repo storage : ℕ) (change : Repository → Repository)
+      → (with_book_changed repo change (without_running repo storage core)).storages
+      ≡ core.storages
+  same_lifted repo storage change = same_by (without_running repo storage core) repo change
+      (repository core repo)
+
+  few_left : (asked : Op) → refusal_of core asked ≡ None → AreFew (left_by core asked)
+  few_left (op.Admit virt name) none = few_more core virt name none few
+  few_left (op.Health storage up) none = few
+  few_left (op.Open threshold rounds voters) none = few
+  few_left (op.Cast tx name phase hash) none = as_before
       (left_by core (op.Cast tx name phase hash))
       (same_cast core tx name phase hash (voting core tx))
-  few_left (op.Withdraw tx voter) served none = few
-  few_left (op.Cancel tx) served none = few
-  few_left (op.Stop tx) served none = few
-  few_left (op.Collect tx voter sub) served none = few
-  few_left (op.Outcome tx sub) served none = few
-  few_left (op.Close tx) served none = few
-  few_left (op.Create virt path factor) served none = as_before
+  few_left (op.Withdraw tx voter) none = few
+  few_left (op.Cancel tx) none = few
+  few_left (op.Stop tx) none = few
+  few_left (op.Collect tx voter sub) none = few
+  few_left (op.Outcome tx sub) none = few
+  few_left (op.Close tx) none = few
+  few_left (op.Create virt path factor) none = as_before
       (left_by core (op.Create virt path factor)) (same_created core (found core virt path) _)
-  few_left (op.Enrol repo storage lease) served none = as_before
+  few_left (op.Enrol repo storage lease) none = as_before
       (left_by core (op.Enrol repo storage lease))
       (same_by core repo.0 _ (repository core repo.0))
-  few_left (op.Begin repo) served none = as_before (left_by core (op.Begin repo))
+  few_left (op.Begin repo) none = as_before (left_by core (op.Begin repo))
       (same_begun core repo.0 (repository core repo.0))
-  few_left (op.Finish tx) served none = few
-  few_left (op.Dequeue target now) served none = as_before
+  few_left (op.Finish tx) none = few
+  few_left (op.Dequeue target now) none = as_before
       (left_by core (op.Dequeue target now)) (same_dequeued core (next_job core target.0) now)
-  few_left (op.Beat job lease now) served none = few
-  few_left (op.Ack job lease good) served none = as_before
+  few_left (op.Beat job lease now) none = few
+  few_left (op.Ack job lease good) none = as_before
       (left_by core (op.Ack job lease good)) (same_ended core good (job_at core job.0))
-  few_left (op.Stale now span) served none = few
-  few_left (op.Reconcile only) served none = few
-  few_left (op.RouteRead repo) served none = absurd served
-  few_left (op.SetFactor repo factor) served none = as_before
+  few_left (op.Stale now span) none = few
+  few_left (op.Reconcile only) none = few
+  few_left (op.RouteRead repo) none = few
+  few_left (op.SetFactor repo factor) none = as_before
       (left_by core (op.SetFactor repo factor)) (same_by core repo.0 _ (repository core repo.0))
-  few_left (op.AcceptBegin repo storage) served none = absurd served
-  few_left (op.Accept repo storage lease) served none = absurd served
-  few_left (op.SettleBegin repo storage) served none = absurd served
-  few_left (op.Settle repo storage lease last) served none = absurd served
-  few_left (op.Booked repo) served none = few
-  few_left (op.Find virt path) served none = few
-  few_left (op.Holder repo) served none = few
+  few_left (op.AcceptBegin repo storage) none = as_before
+      (left_by core (op.AcceptBegin repo storage)) (same_lifted repo.0 storage.0 _)
+  few_left (op.Accept repo storage lease) none = as_before
+      (left_by core (op.Accept repo storage lease)) (same_lifted repo.0 storage.0 _)
+  few_left (op.SettleBegin repo storage) none = as_before
+      (left_by core (op.SettleBegin repo storage)) (same_lifted repo.0 storage.0 _)
+  few_left (op.Settle repo storage lease last) none = as_before
+      (left_by core (op.Settle repo storage lease last)) (same_lifted repo.0 storage.0 _)
+  few_left (op.Booked repo) none = few
+  few_left (op.Find virt path) none = few
+  few_left (op.Holder repo) none = few
 
 -- ---- pushes that began
 
@@ -204,9 +212,8 @@ begun_left core asked none begun = pushes_left (λ (push : OpenPush). push.begun
 
 -- ---- all of it
 
-pub kept : (core : Core) (asked : Op) → IsServed asked → IsSound core
-    → IsSound (next_core core asked)
-kept core asked served sound =
+pub kept : (core : Core) (asked : Op) → IsSound core → IsSound (next_core core asked)
+kept core asked sound =
     by (refusal_of core asked) refl (kept_by_ops core asked (sound.form, sound.left))
   where
     by : (why : Option Refusal) → refusal_of core asked ≡ why
@@ -217,15 +224,15 @@ kept core asked served sound =
       form = both.0;
       left = both.1;
       begun = begun_left core asked none sound.begun;
-      few = few_left core sound.few asked served none;
+      few = few_left core sound.few asked none;
     }
     by (Some why) is both = sound
 
 -- the same of what it leaves where nothing refuses it
-pub kept_done : (core : Core) (asked : Op) → IsServed asked → refusal_of core asked ≡ None
-    → IsSound core → IsSound (left_by core asked)
-kept_done core asked served none sound = subst (λ (why : Option Refusal).
-    IsSound (unless_refused why core (left_by core asked))) none (kept core asked served sound)
+pub kept_done : (core : Core) (asked : Op) → refusal_of core asked ≡ None → IsSound core
+    → IsSound (left_by core asked)
+kept_done core asked none sound = subst (λ (why : Option Refusal).
+    IsSound (unless_refused why core (left_by core asked))) none (kept core asked sound)
 
 pub sound_at_first : IsSound empty
 sound_at_first = record {

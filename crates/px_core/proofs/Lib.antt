@@ -18,3 +18,5 @@ mod Works
 mod BookChanges
 mod Located
 mod Factors
+mod Routing
+mod RepairOps

@@ -1,5 +1,5 @@
 -- A change of the book is that change of the core.
-use Rattle.std.proofs.Common.{◌≡◌, ◌∙◌, ℕ, List, Bool, Option, None, Some, Result, Ok, Err, IfErr, OnErr, OnOk, ap, set}
+use Rattle.std.proofs.Common.{◌≡◌, ℕ, List, Bool, Option, None, Some, Result, Ok, Err, IfErr, OnErr, OnOk, ap, set}
 use Rattle.px_ops.specs.declared.refusal.Refusal.{Refusal}
 use Rattle.txmanager.specs.Registry.{Registry}
 use Rattle.px_cluster.specs.Book.{Repository}
@@ -7,16 +7,15 @@ use Rattle.px_cluster.specs.Core.{Core, OpenPush, repository, with_book_changed,
 use Rattle.px_cluster.specs.Ops.{unless_refused}
 use Rattle.genbook.specs.Books.{Becomes, Books, core_of}
 use Rattle.replqueue.specs.Queue.{Queued}
-use Rattle.px_core.specs.Parts.{core_with, no_reads}
-use Rattle.px_core.proofs.Tables.{reads_set}
+use Rattle.px_core.specs.Parts.{core_with}
 
 module _ (old new : Books) (up : List Bool) (transactions : Registry) (last : ℕ)
-    (pushes : List OpenPush) (queue : Queued) where
+    (pushes : List OpenPush) (reads : List ℕ) (queue : Queued) where
   abbrev before : Core
-  before = core_with old up transactions last pushes queue
+  before = core_with old up transactions last pushes reads queue
 
   abbrev after_ : Core
-  after_ = core_with new up transactions last pushes queue
+  after_ = core_with new up transactions last pushes reads queue
 
   -- another entry in the place of one
   pub put_in : (repo : ℕ) (entry : Repository)
@@ -26,12 +25,9 @@ module _ (old new : Books) (up : List Bool) (transactions : Registry) (last : �
       let storages : new.storages ≡ old.storages = ap (λ (c : Core). c.storages) is in
       let repositories : new.repositories ≡ set old.repositories repo entry =
       ap (λ (c : Core). c.repositories) is in
-      let reads : no_reads new.repositories ≡ no_reads old.repositories =
-      ap no_reads repositories ∙ reads_set old.repositories repo entry in
       λ i. record before {
         storages = storages i;
         repositories = repositories i;
-        reads = reads i;
       }
 
   -- nothing is seen of it
@@ -43,7 +39,6 @@ module _ (old new : Books) (up : List Bool) (transactions : Registry) (last : �
       λ i. record before {
         storages = storages i;
         repositories = repositories i;
-        reads = no_reads (repositories i);
       }
 
   -- the entry of a repository changed, where there is one

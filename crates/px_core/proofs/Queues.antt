@@ -19,9 +19,9 @@ use Rattle.replqueue.specs.Queue.{Queued, core_of}
 use Rattle.px_core.specs.Parts.{core_with}
 
 module _ (books : Books) (up : List Bool) (transactions : Registry) (last : ℕ)
-    (pushes : List OpenPush) (queue : Queued) where
+    (pushes : List OpenPush) (reads : List ℕ) (queue : Queued) where
   abbrev core : Core
-  core = core_with books up transactions last pushes queue
+  core = core_with books up transactions last pushes reads queue
 
   -- what is known beside the queue
   abbrev beside : Core
@@ -84,23 +84,26 @@ module _ (books : Books) (up : List Bool) (transactions : Registry) (last : ℕ)
 -- ---- a change of the queue
 
 module _ (books : Books) (up : List Bool) (transactions : Registry) (last : ℕ)
-    (pushes : List OpenPush) (old new : Queued) where
+    (pushes : List OpenPush) (reads : List ℕ) (old new : Queued) where
   -- it has these jobs, and this is the last number that was given
   pub queue_in : (jobs : List Job) (number : ℕ)
       → core_of new ≡ record empty { jobs = jobs; last_job = number }
-      → core_with books up transactions last pushes new
-      ≡ record (core_with books up transactions last pushes old) { jobs = jobs; last_job = number }
+      → core_with books up transactions last pushes reads new
+      ≡ record (core_with books up transactions last pushes reads old) {
+        jobs = jobs;
+        last_job = number;
+      }
   queue_in jobs number is =
       let jobs_are : new.jobs ≡ jobs = ap (λ (c : Core). c.jobs) is in
       let last_is : new.last ≡ number = ap (λ (c : Core). c.last_job) is in
-      λ i. record (core_with books up transactions last pushes old) {
+      λ i. record (core_with books up transactions last pushes reads old) {
         jobs = jobs_are i;
         last_job = last_is i;
       }
 
   -- nothing is seen of it
-  pub same_queue : core_of new ≡ core_of old → core_with books up transactions last pushes new
-      ≡ core_with books up transactions last pushes old
+  pub same_queue : core_of new ≡ core_of old → core_with books up transactions last pushes reads new
+      ≡ core_with books up transactions last pushes reads old
   same_queue is = queue_in old.jobs old.last is
 
   -- a beat, or why there is none
@@ -108,9 +111,9 @@ module _ (books : Books) (up : List Bool) (transactions : Registry) (last : ℕ)
       (result : Result (Unit {0}) Refusal)
       → OnOk result (core_of new ≡ with_job_changed job (beaten now) (core_of old))
       → OnOk result (cause ≡ None) → IfErr result (λ why. cause ≡ Some why)
-      → OnErr result (new ≡ old) → core_with books up transactions last pushes new
-      ≡ unless_refused cause (core_with books up transactions last pushes old)
-      (with_job_changed job (beaten now) (core_with books up transactions last pushes old))
+      → OnErr result (new ≡ old) → core_with books up transactions last pushes reads new
+      ≡ unless_refused cause (core_with books up transactions last pushes reads old)
+      (with_job_changed job (beaten now) (core_with books up transactions last pushes reads old))
   beat_leads job now cause (Ok done) makes none refused same =
       rw none (queue_in (with_job_changed job (beaten now) (core_of old)).jobs old.last makes)
   beat_leads job now cause (Err why) makes none refused same =
@@ -118,22 +121,22 @@ module _ (books : Books) (up : List Bool) (transactions : Registry) (last : ℕ)
 
   -- bad ends of stale workers
   pub stale_in : (now span : ℕ) → core_of new ≡ without_stale now span (core_of old)
-      → core_with books up transactions last pushes new
-      ≡ without_stale now span (core_with books up transactions last pushes old)
+      → core_with books up transactions last pushes reads new
+      ≡ without_stale now span (core_with books up transactions last pushes reads old)
   stale_in now span is = queue_in (without_stale now span (core_of old)).jobs old.last is
 
   -- a plan
   pub plan_in : (jobs : List Job) → core_of new ≡ with_plan jobs (core_of old)
-      → core_with books up transactions last pushes new
-      ≡ with_plan jobs (core_with books up transactions last pushes old)
+      → core_with books up transactions last pushes reads new
+      ≡ with_plan jobs (core_with books up transactions last pushes reads old)
   plan_in jobs is = queue_in (with_plan jobs (core_of old)).jobs (old.last + length jobs) is
 
   -- what is so before, and would be so after them, is so where they were asked for
   pub stale_leads : (now span : ℕ) (P : Core → Type 0) (result : Result (List JobId) AllocError)
       → OnOk result (core_of new ≡ without_stale now span (core_of old))
-      → OnErr result (new ≡ old) → P (core_with books up transactions last pushes old)
-      → P (without_stale now span (core_with books up transactions last pushes old))
-      → P (core_with books up transactions last pushes new)
+      → OnErr result (new ≡ old) → P (core_with books up transactions last pushes reads old)
+      → P (without_stale now span (core_with books up transactions last pushes reads old))
+      → P (core_with books up transactions last pushes reads new)
   stale_leads now span P (Ok jobs) is same before left = subst P (sym (stale_in now span is)) left
   stale_leads now span P (Err wants) is same before left =
       subst P (sym (same_queue (ap core_of same))) before

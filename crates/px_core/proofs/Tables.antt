@@ -1,13 +1,11 @@
 -- The tables of transactions and pushes.
-use Rattle.std.proofs.Common.{◌≡◌, ◌<◌, ◌≤◌, ◌==◌, ℕ, not, List, [], ◌∷◌, None, Some, refl, ap, inl, inr, filter, find, set, zero, suc, arith}
+use Rattle.std.proofs.Common.{◌≡◌, ◌<◌, ◌≤◌, ◌==◌, ℕ, not, List, [], ◌∷◌, None, Some, refl, ap, inl, inr, filter, find, arith}
 use Rattle.px_base.specs.declared.ids.TxId.{TxId}
 use Rattle.std.specs.List.{AllByRecursion}
 use Rattle.txmanager.specs.Registry.{Registry, transaction_at}
 use Rattle.txmanager.proofs.RegistryLemmas.{apart}
-use Rattle.px_cluster.specs.Book.{Repository}
 use Rattle.px_cluster.specs.Core.{OpenPush}
 use Rattle.cluster_form.proofs.Lists.{bool}
-use Rattle.px_core.specs.Parts.{no_reads}
 
 -- where no push is of the transaction, none ends with it
 pub none_ends : (tx : TxId) (pushes : List OpenPush)
@@ -18,13 +16,6 @@ none_ends tx (push ∷ pushes) none = elim (bool (push.tx.0 == tx.0)) [
   | inl holds ↦ absurd (let z : Some push ≡ None = rw holds at none in cc)
   | inr fails ↦ (rw fails (ap (λ ps. push ∷ ps) (none_ends tx pushes (rw fails at none))))
 ]
-
--- the counts of reads are those of as many repositories
-pub reads_set : (repositories : List Repository) (repo : ℕ) (book : Repository)
-    → no_reads (set repositories repo book) ≡ no_reads repositories
-reads_set [] repo book = refl
-reads_set (r ∷ rs) zero book = refl
-reads_set (r ∷ rs) (suc repo) book = ap (λ ns. 0 ∷ ns) (reads_set rs repo book)
 
 -- no transaction has the next number
 pub next_is_free : (last : ℕ) (registry : Registry) (tx : TxId)

@@ -207,9 +207,9 @@ module _ (core : Core) (target : ℕ) (work : Work) (is : IsWork core target wor
 -- ---- what is left of the core, and answered
 
 module _ (books : Books) (up : List Bool) (votes : Registry) (last : ℕ) (pushes : List OpenPush)
-    (queue made : Queued) (target : StorageId) (now : ℕ) where
+    (reads : List ℕ) (queue made : Queued) (target : StorageId) (now : ℕ) where
   abbrev before : Core
-  before = core_with books up votes last pushes queue
+  before = core_with books up votes last pushes reads queue
 
   -- there is no job
   pub nothing_done : dequeue_refusal before target.0 ≡ None → next_job before target.0 ≡ None
@@ -224,11 +224,11 @@ module _ (books : Books) (up : List Bool) (votes : Registry) (last : ℕ) (pushe
   pub dropped_done : (number : JobId) → dequeue_refusal before target.0 ≡ None
       → IsDropped before target.0 number → jobs_of made ≡ without_job number (jobs_of queue)
       → IsDone before (op.Dequeue target now) (reply.Dropped number)
-      (core_with books up votes last pushes made)
+      (core_with books up votes last pushes reads made)
   dropped_done number none is gone = record {
     accepted = none;
     answers = answer;
-    leads = queue_in books up votes last pushes queue made
+    leads = queue_in books up votes last pushes reads queue made
         (without_job number (jobs_of queue)).jobs queue.last gone ∙ left;
   }
     where
@@ -259,18 +259,18 @@ module _ (books : Books) (up : List Bool) (votes : Registry) (last : ℕ) (pushe
     pub take_done : Becomes work.job.repo.0 change books new
         → jobs_of made ≡ with_job_changed work.job.number taken (jobs_of queue)
         → IsDone before (op.Dequeue target now) (reply.Taken (work_told before work))
-        (core_with new up votes last pushes made)
+        (core_with new up votes last pushes reads made)
     take_done becomes makes =
-        let changed : core_with new up votes last pushes queue
+        let changed : core_with new up votes last pushes reads queue
         ≡ with_repository work.job.repo.0 (change is.book) before =
-        changed_in books new up votes last pushes queue work.job.repo.0 change becomes
+        changed_in books new up votes last pushes reads queue work.job.repo.0 change becomes
         ∙ ap (λ (there : Option Repository).
         with_repository_by there work.job.repo.0 change before) is.there in
         let jobs = (with_job_changed work.job.number taken (jobs_of queue)).jobs in
         record {
           accepted = is.accepted;
           answers = take_answer;
-          leads = queue_in new up votes last pushes queue made jobs queue.last makes
+          leads = queue_in new up votes last pushes reads queue made jobs queue.last makes
               ∙ ap (λ (c : Core). record c { jobs = jobs; last_job = queue.last }) changed
               ∙ take_left;
         }

@@ -8,6 +8,8 @@ pub mod Few
 pub mod Known
 pub mod Parts
 pub mod Readers
+pub mod Routing
+pub mod Repairs
 pub mod Served
 pub mod Sound
 pub mod Steps

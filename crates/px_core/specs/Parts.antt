@@ -1,19 +1,14 @@
 -- The core by what stores it.
-use Rattle.std.specs.Prelude.{ℕ, Bool, List, map}
+use Rattle.std.specs.Prelude.{ℕ, Bool, List}
 use Rattle.txmanager.specs.Registry.{Registry}
 use Rattle.genbook.specs.Books.{Books}
 use Rattle.replqueue.specs.Queue.{Queued}
-use Rattle.px_cluster.specs.Book.{Repository}
 use Rattle.px_cluster.specs.Core.{Core, OpenPush, empty}
 
--- no read of a repository was routed yet
-abbrev pub no_reads : List Repository → List ℕ
-no_reads repositories = map (λ (repo : Repository). 0) repositories
-
 -- a book, which storages are up, the transactions, the last number that one was given, the open
--- pushes, and the queue; there are no default factors
-abbrev pub core_with : Books → List Bool → Registry → ℕ → List OpenPush → Queued → Core
-core_with book up transactions last pushes queue = record empty {
+-- pushes, the counts of reads, and the queue; there are no default factors
+abbrev pub core_with : Books → List Bool → Registry → ℕ → List OpenPush → List ℕ → Queued → Core
+core_with book up transactions last pushes reads queue = record empty {
   storages = book.storages;
   repositories = book.repositories;
   jobs = queue.jobs;
@@ -22,5 +17,5 @@ core_with book up transactions last pushes queue = record empty {
   transactions = transactions;
   pushes = pushes;
   health = up;
-  reads = no_reads book.repositories;
+  reads = reads;
 }

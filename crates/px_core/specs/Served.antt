@@ -2,15 +2,6 @@
 use Rattle.px_ops.specs.declared.op.Op.{Op}
 use Rattle.px_ops.specs.declared.op.Op.TheVariants as op
 
--- none that routes reads, or accepts or settles a replica
-abbrev pub IsServed : Op → Type 0
-IsServed (op.RouteRead repo) = ⊥
-IsServed (op.AcceptBegin repo storage) = ⊥
-IsServed (op.Accept repo storage lease) = ⊥
-IsServed (op.SettleBegin repo storage) = ⊥
-IsServed (op.Settle repo storage lease last) = ⊥
-IsServed other = Unit {0}
-
 -- those on storages, repositories and jobs
 abbrev pub IsOnBook : Op → Type 0
 IsOnBook (op.Admit virt name) = Unit {0}
@@ -23,6 +14,10 @@ IsOnBook (op.Ack job lease good) = Unit {0}
 IsOnBook (op.Stale now after) = Unit {0}
 IsOnBook (op.Reconcile only) = Unit {0}
 IsOnBook (op.SetFactor repo factor) = Unit {0}
+IsOnBook (op.AcceptBegin repo storage) = Unit {0}
+IsOnBook (op.Accept repo storage lease) = Unit {0}
+IsOnBook (op.SettleBegin repo storage) = Unit {0}
+IsOnBook (op.Settle repo storage lease last) = Unit {0}
 IsOnBook (op.Booked repo) = Unit {0}
 IsOnBook (op.Find virt path) = Unit {0}
 IsOnBook other = ⊥
@@ -40,6 +35,11 @@ TakesNone (op.Enrol repo storage lease) = Unit {0}
 TakesNone (op.Finish tx) = Unit {0}
 TakesNone (op.Beat job lease now) = Unit {0}
 TakesNone (op.Ack job lease good) = Unit {0}
+TakesNone (op.RouteRead repo) = Unit {0}
+TakesNone (op.AcceptBegin repo storage) = Unit {0}
+TakesNone (op.Accept repo storage lease) = Unit {0}
+TakesNone (op.SettleBegin repo storage) = Unit {0}
+TakesNone (op.Settle repo storage lease last) = Unit {0}
 TakesNone (op.Find virt path) = Unit {0}
 TakesNone (op.Holder repo) = Unit {0}
 TakesNone other = ⊥

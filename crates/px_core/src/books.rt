@@ -5,13 +5,14 @@ ghost use Rattle.px_ops.specs.declared.op.Op.TheVariants as op;
 ghost use Rattle.px_cluster.specs.Ops.{next_core, refusal_of, reply_of};
 ghost use Rattle.px_cluster.specs.Reads.{booked_reply, row_of};
 ghost use Rattle.cluster_form.specs.Books.{IsDense};
-ghost use Rattle.genbook.specs.Calls.{enrol_cause};
 ghost use Rattle.px_core.specs.Readers.{IsNextCreation};
 ghost use Rattle.px_core.specs.Steps.{Steps};
 
 use crate::Core;
 use crate::fault::Fault;
 use crate::names::{name_of, names_of};
+use crate::reads::add_count;
+use crate::replicas::is_making;
 use genbook::{BookFault, Creation, Replica, Repository};
 use px_base::{Lease, RepoId, RepoPath, StorageId, StorageName};
 use px_ops::{BookRow, BookRows, Refusal, Reply};
@@ -61,9 +62,11 @@ impl Core {
     {
         let creation = self.book.plan_create(alloc, virt, path, factor)?;
         let assigned = names_of(alloc, &self.book, creation.assigned.as_slice())?;
+        self.reads.reserve(1)?;
         let repo = creation.repo;
         let lease = creation.lease;
         self.book.create(creation);
+        add_count(&mut self.reads, repo);
         Ok(Reply::Created {
             repo,
             lease,
@@ -162,20 +165,4 @@ impl Core {
             Err(refusal) => Reply::Refused(refusal),
         }
     }
-}
-
-// The replica on a storage is to be made under this lease, and the lease is the last one that was
-// drawn for it.
-fn is_making(repository: &Repository, storage: StorageId, lease: Lease) -> Result<(), Refusal>
-    ensures accepted { OnOk result (enrol_cause repository.now storage.0 lease ≡ None) }
-    ensures refused { IfErr result (λ why. enrol_cause repository.now storage.0 lease ≡ Some why) }
-{
-    let kept = repository.kept(storage);
-    if kept != lease {
-        return Err(Refusal::LeaseLost { kept, given: lease });
-    }
-    if repository.creation_lease() != lease {
-        return Err(Refusal::NotMaking);
-    }
-    Ok(())
 }

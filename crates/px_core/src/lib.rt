@@ -1,5 +1,5 @@
-//! The core: the book, which storages are up, the transactions, the turns of pushes and the queue
-//! of replication jobs, and one step for each operation.
+//! The core: the book, which storages are up, the transactions, the turns of pushes, the counts of
+//! reads and the queue of replication jobs, and one step for each operation.
 #![tactic(auto)]
 
 mod bookings;
@@ -13,7 +13,10 @@ mod names;
 mod planned;
 mod pushes;
 mod readers;
+mod reads;
 mod refusal;
+mod repairs;
+mod replicas;
 mod state;
 mod step;
 mod votes;

@@ -11,7 +11,8 @@ use turns::Turns;
 use txmanager::Manager;
 
 /// The core of the router: storages and repositories with what is booked, which storages are up,
-/// the transactions, the pushes that have a turn, and the queue of replication jobs.
+/// the transactions, the pushes that have a turn, how many reads were routed, and the queue of
+/// replication jobs.
 #[derive(Drop)]
 pub struct Core {
     pub(crate) book: Book,
@@ -19,6 +20,8 @@ pub struct Core {
     pub(crate) votes: Manager,
     pub(crate) last: u64,
     pub(crate) turns: Turns,
+    // Of each repository, how many reads of it were routed.
+    pub(crate) reads: Vec<u64>,
     pub(crate) queue: Queue,
 }
 
@@ -29,9 +32,11 @@ impl Model for Core {
 
     ghost Value = { Known };
 
-    ghost view = { λ c. core_with c.book c.health.up c.votes c.last c.turns c.queue };
+    ghost view = { λ c. core_with c.book c.health.up c.votes c.last c.turns c.reads.items
+        c.queue };
 
-    ghost invariant = { λ c. IsSound (core_with c.book c.health.up c.votes c.last c.turns c.queue) };
+    ghost invariant = { λ c. IsSound (core_with c.book c.health.up c.votes c.last c.turns
+        c.reads.items c.queue) };
 }
 
 impl Core {
@@ -45,6 +50,7 @@ impl Core {
             votes: Manager::new(alloc),
             last: 0,
             turns: Turns::new(alloc),
+            reads: Vec::new(alloc),
             queue: Queue::new(alloc),
         }
     }

@@ -4,7 +4,7 @@ ghost use Rattle.std.specs.Prelude.{◌≡◌, IfOk, IsOk, OnErr, OnOk};
 ghost use Rattle.px_cluster.specs.Core.{Core as Known};
 ghost use Rattle.px_cluster.specs.Ops.{next_core, reply_of};
 ghost use Rattle.px_ops.specs.declared.op.Op.{Op};
-ghost use Rattle.px_core.specs.Served.{IsOnBook, IsServed, TakesNone};
+ghost use Rattle.px_core.specs.Served.{IsOnBook, TakesNone};
 ghost use Rattle.px_core.specs.Steps.{Steps};
 
 use crate::Core;
@@ -17,7 +17,6 @@ impl Core {
     /// memory wants, nothing changes either; all memory that an operation takes is taken before it
     /// changes anything.
     pub fn step(&mut self, alloc: Global, op: &Op) -> Result<Reply, AllocError>
-        requires { IsServed op.now }
         ensures reply { IfOk result (λ reply. reply ≡ reply_of self.old op.now) }
         ensures state { OnOk result (self.new ≡ next_core self.old op.now) }
         ensures err { OnErr result (self.new ≡ self.old) }
@@ -44,6 +43,7 @@ impl Core {
             Op::Begin { repo } => told(self.begin(alloc, *repo)),
             Op::Finish { tx } => Ok(self.finish(*tx)),
             Op::Holder { repo } => Ok(self.holder(*repo)),
+            Op::RouteRead { repo } => Ok(self.route_read(*repo)),
             _ => self.step_on_book(alloc, op),
         }
     }
@@ -71,6 +71,19 @@ impl Core {
             Op::Stale { now, after } => self.stale(alloc, *now, *after),
             Op::Reconcile { only } => self.reconcile(alloc, *only),
             Op::SetFactor { repo, factor } => told(self.set_factor(alloc, *repo, *factor)),
+            Op::AcceptBegin { repo, storage } => Ok(self.draw_to_accept(*repo, *storage)),
+            Op::Accept {
+                repo,
+                storage,
+                lease,
+            } => Ok(self.accept(*repo, *storage, *lease)),
+            Op::SettleBegin { repo, storage } => Ok(self.draw_to_settle(*repo, *storage)),
+            Op::Settle {
+                repo,
+                storage,
+                lease,
+                last,
+            } => Ok(self.settle(*repo, *storage, *lease, *last)),
             Op::Booked { repo } => self.booked(alloc, *repo),
             Op::Find { virt, path } => Ok(self.find(virt, path)),
             _ => unreachable!(),

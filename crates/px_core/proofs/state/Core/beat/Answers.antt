@@ -12,9 +12,9 @@ pub invariant_of-self : goal.invariant_of-self
 invariant_of-self c =
     let inside = c.self.inside in
     let core = core_with inside.book inside.health.up inside.votes inside.last inside.turns
-    inside.queue in
+    inside.reads.items inside.queue in
     subst IsSound (sym (beat_leads inside.book inside.health.up inside.votes inside.last
-    inside.turns inside.queue c.beat.new.self c.args.job c.args.now
+    inside.turns inside.reads.items inside.queue c.beat.new.self c.args.job c.args.now
     (worker_refusal c.args.job c.args.lease (job_at core c.args.job.0)) c.beat.result
     c.beat.ensures.ok c.beat.ensures.accepted c.beat.ensures.refused c.beat.ensures.err))
-    (kept core (op.Beat c.args.job c.args.lease c.args.now) tt c.self.invariant)
+    (kept core (op.Beat c.args.job c.args.lease c.args.now) c.self.invariant)

@@ -21,7 +21,7 @@ use Rattle.px_core.proofs.state.Core.begin_as.Goals as goal
 pub register-requires : goal.register-requires
 register-requires c =
     let core = core_with c.self.inside.book c.self.inside.health.up c.self.inside.votes
-    c.self.inside.last c.self.inside.turns c.self.inside.queue in
+    c.self.inside.last c.self.inside.turns c.self.inside.reads.items c.self.inside.queue in
     let plan = c.args.plan in
     let p = subst (λ (known : Core). IsPlanned known plan.push.repo plan) (sym c.self.view_is)
     c.requires in
@@ -33,7 +33,7 @@ register-requires c =
 pub invariant_of-self-then-is_err : goal.invariant_of-self-then-is_err
 invariant_of-self-then-is_err c =
     let core = core_with c.self.inside.book c.self.inside.health.up c.self.inside.votes
-    c.self.inside.last c.self.inside.turns c.self.inside.queue in
+    c.self.inside.last c.self.inside.turns c.self.inside.reads.items c.self.inside.queue in
     let plan = c.args.plan in
     let p = subst (λ (known : Core). IsPlanned known plan.push.repo plan) (sym c.self.view_is)
     c.requires in
@@ -48,16 +48,18 @@ invariant_of-self-then-is_err c =
     (others_before core.storages core.transactions c.self.inside.last plan.begun.tx
     c.self.inside.turns number c.self.invariant.form.turns.each) push_tx in
     subst (λ (votes : Registry). IsSound (core_with c.self.inside.book c.self.inside.health.up
-    votes c.self.inside.last c.end.new.self c.self.inside.queue)) (sym votes_same)
+    votes c.self.inside.last c.end.new.self c.self.inside.reads.items c.self.inside.queue))
+    (sym votes_same)
     (subst (λ (pushes : List OpenPush). IsSound (core_with c.self.inside.book
-    c.self.inside.health.up c.self.inside.votes c.self.inside.last pushes c.self.inside.queue))
+    c.self.inside.health.up c.self.inside.votes c.self.inside.last pushes c.self.inside.reads.items
+    c.self.inside.queue))
     (sym turns_same)
     c.self.invariant)
 
 pub returns-then-is_err-clause-err : goal.returns-then-is_err-clause-err
 returns-then-is_err-clause-err c =
     let core = core_with c.self.inside.book c.self.inside.health.up c.self.inside.votes
-    c.self.inside.last c.self.inside.turns c.self.inside.queue in
+    c.self.inside.last c.self.inside.turns c.self.inside.reads.items c.self.inside.queue in
     let plan = c.args.plan in
     let p = subst (λ (known : Core). IsPlanned known plan.push.repo plan) (sym c.self.view_is)
     c.requires in
@@ -72,12 +74,13 @@ returns-then-is_err-clause-err c =
     (others_before core.storages core.transactions c.self.inside.last plan.begun.tx
     c.self.inside.turns number c.self.invariant.form.turns.each) push_tx in
     (λ i. core_with c.self.inside.book c.self.inside.health.up (votes_same i)
-    c.self.inside.last (turns_same i) c.self.inside.queue) ∙ c.self.view_is
+    c.self.inside.last (turns_same i) c.self.inside.reads.items c.self.inside.queue)
+    ∙ c.self.view_is
 
 pub put-requires-clause-known : goal.put-requires-clause-known
 put-requires-clause-known c =
     let core = core_with c.self.inside.book c.self.inside.health.up c.self.inside.votes
-    c.self.inside.last c.self.inside.turns c.self.inside.queue in
+    c.self.inside.last c.self.inside.turns c.self.inside.reads.items c.self.inside.queue in
     let plan = c.args.plan in
     let p = subst (λ (known : Core). IsPlanned known plan.push.repo plan) (sym c.self.view_is)
     c.requires in
@@ -89,7 +92,7 @@ put-requires-clause-known c =
 pub invariant_of-self-2 : goal.invariant_of-self-2
 invariant_of-self-2 c =
     let core = core_with c.self.inside.book c.self.inside.health.up c.self.inside.votes
-    c.self.inside.last c.self.inside.turns c.self.inside.queue in
+    c.self.inside.last c.self.inside.turns c.self.inside.reads.items c.self.inside.queue in
     let plan = c.args.plan in
     let p = subst (λ (known : Core). IsPlanned known plan.push.repo plan) (sym c.self.view_is)
     c.requires in
@@ -102,20 +105,21 @@ invariant_of-self-2 c =
     subst (λ (n : ℕ). core_of c.put.new.self ≡ with_repository n plan.entry
     (core_of c.self.inside.book)) c.repo-repo.ensures c.put.ensures in
     let leads : core_with c.put.new.self c.self.inside.health.up c.register.new.self
-    plan.begun.tx.0 c.begin.new.self c.self.inside.queue
+    plan.begun.tx.0 c.begin.new.self c.self.inside.reads.items c.self.inside.queue
     ≡ with_begun (beginning core plan.push.repo p.book) p.book core =
     begun_is c.self.inside.book c.put.new.self c.self.inside.health.up c.self.inside.votes
-    c.self.inside.last c.self.inside.turns c.self.inside.queue plan.push.repo p.book plan.entry
+    c.self.inside.last c.self.inside.turns c.self.inside.reads.items c.self.inside.queue
+    plan.push.repo p.book plan.entry
     plan.panel
     plan.begun.tx plan.push c.register.new.self c.begin.new.self put p.is.entry votes_are
     p.is.panel tx_is c.in_ok-begin.ensures.ok p.is.push in
     subst IsSound (sym (leads ∙ begin_leads core plan.push.repo p.book p.there p.none))
-    (kept core (op.Begin (repo_id plan.push.repo)) tt c.self.invariant)
+    (kept core (op.Begin (repo_id plan.push.repo)) c.self.invariant)
 
 pub returns-clause-state : goal.returns-clause-state
 returns-clause-state c =
     let core = core_with c.self.inside.book c.self.inside.health.up c.self.inside.votes
-    c.self.inside.last c.self.inside.turns c.self.inside.queue in
+    c.self.inside.last c.self.inside.turns c.self.inside.reads.items c.self.inside.queue in
     let plan = c.args.plan in
     let p = subst (λ (known : Core). IsPlanned known plan.push.repo plan) (sym c.self.view_is)
     c.requires in
@@ -128,10 +132,11 @@ returns-clause-state c =
     subst (λ (n : ℕ). core_of c.put.new.self ≡ with_repository n plan.entry
     (core_of c.self.inside.book)) c.repo-repo.ensures c.put.ensures in
     let leads : core_with c.put.new.self c.self.inside.health.up c.register.new.self
-    plan.begun.tx.0 c.begin.new.self c.self.inside.queue
+    plan.begun.tx.0 c.begin.new.self c.self.inside.reads.items c.self.inside.queue
     ≡ with_begun (beginning core plan.push.repo p.book) p.book core =
     begun_is c.self.inside.book c.put.new.self c.self.inside.health.up c.self.inside.votes
-    c.self.inside.last c.self.inside.turns c.self.inside.queue plan.push.repo p.book plan.entry
+    c.self.inside.last c.self.inside.turns c.self.inside.reads.items c.self.inside.queue
+    plan.push.repo p.book plan.entry
     plan.panel
     plan.begun.tx plan.push c.register.new.self c.begin.new.self put p.is.entry votes_are
     p.is.panel tx_is c.in_ok-begin.ensures.ok p.is.push in
@@ -147,7 +152,7 @@ returns-clause-reply c =
 pub returns-clause-turn : goal.returns-clause-turn
 returns-clause-turn c =
     let core = core_with c.self.inside.book c.self.inside.health.up c.self.inside.votes
-    c.self.inside.last c.self.inside.turns c.self.inside.queue in
+    c.self.inside.last c.self.inside.turns c.self.inside.reads.items c.self.inside.queue in
     let plan = c.args.plan in
     let p = subst (λ (known : Core). IsPlanned known plan.push.repo plan) (sym c.self.view_is)
     c.requires in

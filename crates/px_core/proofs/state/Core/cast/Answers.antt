@@ -18,7 +18,7 @@ use Rattle.px_core.proofs.state.Core.cast.Goals as goal
 pub plan_cast-requires : goal.plan_cast-requires
 plan_cast-requires c =
     let core = core_with c.self.inside.book c.self.inside.health.up c.self.inside.votes
-    c.self.inside.last c.self.inside.turns c.self.inside.queue in
+    c.self.inside.last c.self.inside.turns c.self.inside.reads.items c.self.inside.queue in
     let push = c.in-Some.push.now in
     let found : push_of core c.args.tx ≡ Some push = search rules in
     let is = open_push core c.self.invariant c.args.tx push found in
@@ -27,7 +27,7 @@ plan_cast-requires c =
 pub put-requires-2-clause-known : goal.put-requires-2-clause-known
 put-requires-2-clause-known c =
     let core = core_with c.self.inside.book c.self.inside.health.up c.self.inside.votes
-    c.self.inside.last c.self.inside.turns c.self.inside.queue in
+    c.self.inside.last c.self.inside.turns c.self.inside.reads.items c.self.inside.queue in
     let push = c.in-Some.push.now in
     let found : push_of core c.args.tx ≡ Some push = search rules in
     let is = open_push core c.self.invariant c.args.tx push found in
@@ -37,7 +37,7 @@ put-requires-2-clause-known c =
 pub invariant_of-self : goal.invariant_of-self
 invariant_of-self c =
     let core = core_with c.self.inside.book c.self.inside.health.up c.self.inside.votes
-    c.self.inside.last c.self.inside.turns c.self.inside.queue in
+    c.self.inside.last c.self.inside.turns c.self.inside.reads.items c.self.inside.queue in
     let push = c.in-Some.push.now in
     let found : push_of core c.args.tx ≡ Some push = search rules in
     let is = open_push core c.self.invariant c.args.tx push found in
@@ -46,22 +46,24 @@ invariant_of-self c =
     subst (λ (known : Core). IsCounted known push c.args.voter.now c.args.phase c.args.hash.now
     plan) (sym c.self.view_is) c.in-Ok.ensures.ok in
     let leads = counted_leads c.self.inside.book c.put-2.new.self c.self.inside.health.up
-    c.self.inside.votes c.self.inside.last c.self.inside.turns c.self.inside.queue c.args.tx
+    c.self.inside.votes c.self.inside.last c.self.inside.turns c.self.inside.reads.items
+    c.self.inside.queue c.args.tx
     c.args.voter.now c.args.phase
     c.args.hash.now push plan found is.same counted c.put.new.self c.repo-repo.result.0
     c.put.ensures
     c.repo-repo.ensures c.put-2.ensures in
     let accepted = counted_accepted c.self.inside.book c.put-2.new.self c.self.inside.health.up
-    c.self.inside.votes c.self.inside.last c.self.inside.turns c.self.inside.queue c.args.tx
+    c.self.inside.votes c.self.inside.last c.self.inside.turns c.self.inside.reads.items
+    c.self.inside.queue c.args.tx
     c.args.voter.now c.args.phase
     c.args.hash.now push plan found is.same counted in
     subst IsSound (sym leads) (kept_done core
-    (op.Cast c.args.tx c.args.voter.now c.args.phase c.args.hash.now) tt accepted c.self.invariant)
+    (op.Cast c.args.tx c.args.voter.now c.args.phase c.args.hash.now) accepted c.self.invariant)
 
 pub returns : goal.returns
 returns c =
     let core = core_with c.self.inside.book c.self.inside.health.up c.self.inside.votes
-    c.self.inside.last c.self.inside.turns c.self.inside.queue in
+    c.self.inside.last c.self.inside.turns c.self.inside.reads.items c.self.inside.queue in
     let push = c.in-Some.push.now in
     let found : push_of core c.args.tx ≡ Some push = search rules in
     let is = open_push core c.self.invariant c.args.tx push found in
@@ -70,21 +72,24 @@ returns c =
     subst (λ (known : Core). IsCounted known push c.args.voter.now c.args.phase c.args.hash.now
     plan) (sym c.self.view_is) c.in-Ok.ensures.ok in
     let leads = counted_leads c.self.inside.book c.put-2.new.self c.self.inside.health.up
-    c.self.inside.votes c.self.inside.last c.self.inside.turns c.self.inside.queue c.args.tx
+    c.self.inside.votes c.self.inside.last c.self.inside.turns c.self.inside.reads.items
+    c.self.inside.queue c.args.tx
     c.args.voter.now c.args.phase
     c.args.hash.now push plan found is.same counted c.put.new.self c.repo-repo.result.0
     c.put.ensures
     c.repo-repo.ensures c.put-2.ensures in
     let accepted = counted_accepted c.self.inside.book c.put-2.new.self c.self.inside.health.up
-    c.self.inside.votes c.self.inside.last c.self.inside.turns c.self.inside.queue c.args.tx
+    c.self.inside.votes c.self.inside.last c.self.inside.turns c.self.inside.reads.items
+    c.self.inside.queue c.args.tx
     c.args.voter.now c.args.phase
     c.args.hash.now push plan found is.same counted in
     let answers = counted_answer c.self.inside.book c.put-2.new.self c.self.inside.health.up
-    c.self.inside.votes c.self.inside.last c.self.inside.turns c.self.inside.queue c.args.tx
+    c.self.inside.votes c.self.inside.last c.self.inside.turns c.self.inside.reads.items
+    c.self.inside.queue c.args.tx
     c.args.voter.now c.args.phase
     c.args.hash.now push plan found is.same counted in
     let after_ = core_with c.put-2.new.self c.self.inside.health.up c.put.new.self
-    c.self.inside.last c.self.inside.turns c.self.inside.queue in
+    c.self.inside.last c.self.inside.turns c.self.inside.reads.items c.self.inside.queue in
     subst (λ (known : Core). IsDone known
     (op.Cast c.args.tx c.args.voter.now c.args.phase c.args.hash.now)
     (reply.Counted plan.sub plan.result) after_) c.self.view_is
@@ -93,7 +98,7 @@ returns c =
 pub returns-in-Err : goal.returns-in-Err
 returns-in-Err c =
     let core = core_with c.self.inside.book c.self.inside.health.up c.self.inside.votes
-    c.self.inside.last c.self.inside.turns c.self.inside.queue in
+    c.self.inside.last c.self.inside.turns c.self.inside.reads.items c.self.inside.queue in
     let push = c.in-Some.push.now in
     let found : push_of core c.args.tx ≡ Some push = search rules in
     let is = open_push core c.self.invariant c.args.tx push found in

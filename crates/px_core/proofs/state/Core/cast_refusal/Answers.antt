@@ -14,7 +14,7 @@ use Rattle.px_core.proofs.state.Core.cast_refusal.Goals as goal
 pub plan_cast-requires : goal.plan_cast-requires
 plan_cast-requires c =
     let core = core_with c.self.inside.book c.self.inside.health.up c.self.inside.votes
-    c.self.inside.last c.self.inside.turns c.self.inside.queue in
+    c.self.inside.last c.self.inside.turns c.self.inside.reads.items c.self.inside.queue in
     let push = c.in-Some.push.now in
     let found : push_of core c.args.tx ≡ Some push = search rules in
     let is = open_push core c.self.invariant c.args.tx push found in
@@ -23,7 +23,7 @@ plan_cast-requires c =
 pub returns-in-Ok : goal.returns-in-Ok
 returns-in-Ok c =
     let core = core_with c.self.inside.book c.self.inside.health.up c.self.inside.votes
-    c.self.inside.last c.self.inside.turns c.self.inside.queue in
+    c.self.inside.last c.self.inside.turns c.self.inside.reads.items c.self.inside.queue in
     let push = c.in-Some.push.now in
     let found : push_of core c.args.tx ≡ Some push = search rules in
     let is = open_push core c.self.invariant c.args.tx push found in
@@ -32,7 +32,8 @@ returns-in-Ok c =
     subst (λ (known : Core). IsCounted known push c.args.voter.now c.args.phase c.args.hash.now
     plan) (sym c.self.view_is) c.in-Ok.ensures.ok in
     let accepted = counted_accepted c.self.inside.book c.self.inside.book c.self.inside.health.up
-    c.self.inside.votes c.self.inside.last c.self.inside.turns c.self.inside.queue c.args.tx
+    c.self.inside.votes c.self.inside.last c.self.inside.turns c.self.inside.reads.items
+    c.self.inside.queue c.args.tx
     c.args.voter.now c.args.phase
     c.args.hash.now push plan found is.same counted in
     sym (subst (λ (known : Core). refusal_of known
@@ -42,7 +43,7 @@ returns-in-Ok c =
 pub returns-in-Err-Refused : goal.returns-in-Err-Refused
 returns-in-Err-Refused c =
     let core = core_with c.self.inside.book c.self.inside.health.up c.self.inside.votes
-    c.self.inside.last c.self.inside.turns c.self.inside.queue in
+    c.self.inside.last c.self.inside.turns c.self.inside.reads.items c.self.inside.queue in
     let push = c.in-Some.push.now in
     let found : push_of core c.args.tx ≡ Some push = search rules in
     let is = open_push core c.self.invariant c.args.tx push found in

@@ -13,7 +13,7 @@ use Rattle.px_core.proofs.state.Core.close.Goals as goal
 pub returns-then-is_some-clause-reply : goal.returns-then-is_some-clause-reply
 returns-then-is_some-clause-reply c =
     let core = core_with c.self.inside.book c.self.inside.health.up c.self.inside.votes
-    c.self.inside.last c.self.inside.turns c.self.inside.queue in
+    c.self.inside.last c.self.inside.turns c.self.inside.reads.items c.self.inside.queue in
     subst (λ (known : Core). reply.Refused refusal.IsPush ≡ reply_of known (op.Close c.args.tx))
     c.self.view_is (sym (push_refused core c.args.tx c.self.invariant.form
     (push_of core c.args.tx) refl (search (rules, c.push.ensures, c.is_some.ensures))))
@@ -21,16 +21,16 @@ returns-then-is_some-clause-reply c =
 pub invariant_of-self : goal.invariant_of-self
 invariant_of-self c =
     let core = core_with c.self.inside.book c.self.inside.health.up c.self.inside.votes
-    c.self.inside.last c.self.inside.turns c.self.inside.queue in
+    c.self.inside.last c.self.inside.turns c.self.inside.reads.items c.self.inside.queue in
     let none : push_of core c.args.tx ≡ None = search (rules, c.push.ensures, c.is_some.ensures) in
     subst IsSound (sym (close_leads core c.args.tx none c.close.result c.close.new.self
     c.close.ensures.answer c.close.ensures.state c.close.ensures.same))
-    (kept core (op.Close c.args.tx) tt c.self.invariant)
+    (kept core (op.Close c.args.tx) c.self.invariant)
 
 pub returns-clause-state : goal.returns-clause-state
 returns-clause-state c =
     let core = core_with c.self.inside.book c.self.inside.health.up c.self.inside.votes
-    c.self.inside.last c.self.inside.turns c.self.inside.queue in
+    c.self.inside.last c.self.inside.turns c.self.inside.reads.items c.self.inside.queue in
     let none : push_of core c.args.tx ≡ None = search (rules, c.push.ensures, c.is_some.ensures) in
     close_leads core c.args.tx none c.close.result c.close.new.self
     c.close.ensures.answer c.close.ensures.state c.close.ensures.same

@@ -12,7 +12,7 @@ pub invariant_of-self : goal.invariant_of-self
 invariant_of-self c =
     let inside = c.self.inside in
     let core = core_with inside.book inside.health.up inside.votes inside.last inside.turns
-    inside.queue in
+    inside.reads.items inside.queue in
     let target = c.args.target.0 in
     let job = c.in-Dropped.job in
     let none : dequeue_refusal core target ≡ None = subst (λ (known : Core).
@@ -20,6 +20,7 @@ invariant_of-self c =
     let comes : IsDropped c.args.self.now target job =
     subst (Comes c.args.self.now target) c.in-Dropped.is c.in_ok-coming.ensures.ok in
     let is = subst (λ (known : Core). IsDropped known target job) (sym c.self.view_is) comes in
-    done_sound core _ (op.Dequeue c.args.target c.args.now) (reply.Dropped job) tt c.self.invariant
-    (dropped_done inside.book inside.health.up inside.votes inside.last inside.turns inside.queue
+    done_sound core _ (op.Dequeue c.args.target c.args.now) (reply.Dropped job) c.self.invariant
+    (dropped_done inside.book inside.health.up inside.votes inside.last inside.turns
+    inside.reads.items inside.queue
     c.drop.new.self c.args.target c.args.now job none is c.drop.ensures)

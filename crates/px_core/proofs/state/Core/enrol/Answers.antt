@@ -15,20 +15,22 @@ pub invariant_of-self : goal.invariant_of-self
 invariant_of-self c =
     let book = c.self.inside.book in
     let core = core_with book c.self.inside.health.up c.self.inside.votes c.self.inside.last
-    c.self.inside.turns c.self.inside.queue in
+    c.self.inside.turns c.self.inside.reads.items c.self.inside.queue in
     subst IsSound (sym (book_leads book c.enrol.new.self c.self.inside.health.up
-    c.self.inside.votes c.self.inside.last c.self.inside.turns c.self.inside.queue c.args.repo.0
+    c.self.inside.votes c.self.inside.last c.self.inside.turns c.self.inside.reads.items
+    c.self.inside.queue c.args.repo.0
     (with_replica_on c.args.storage.0 enrolled)
     (enrol_refusal (core_of book) (on_book book c.args.repo.0) c.args.storage.0 c.args.lease)
     c.enrol.result c.enrol.ensures.ok c.enrol.ensures.accepted c.enrol.ensures.refused
     c.enrol.ensures.err))
-    (kept core (op.Enrol c.args.repo c.args.storage c.args.lease) tt c.self.invariant)
+    (kept core (op.Enrol c.args.repo c.args.storage c.args.lease) c.self.invariant)
 
 pub returns-clause-state : goal.returns-clause-state
 returns-clause-state c =
     let book = c.self.inside.book in
     book_leads book c.enrol.new.self c.self.inside.health.up
-    c.self.inside.votes c.self.inside.last c.self.inside.turns c.self.inside.queue c.args.repo.0
+    c.self.inside.votes c.self.inside.last c.self.inside.turns c.self.inside.reads.items
+    c.self.inside.queue c.args.repo.0
     (with_replica_on c.args.storage.0 enrolled)
     (enrol_refusal (core_of book) (on_book book c.args.repo.0) c.args.storage.0 c.args.lease)
     c.enrol.result c.enrol.ensures.ok c.enrol.ensures.accepted c.enrol.ensures.refused

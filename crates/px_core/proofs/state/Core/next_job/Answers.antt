@@ -8,6 +8,7 @@ pub returns : goal.returns
 returns c =
     let inside = c.self.inside in
     c.next.ensures
-    ∙ next_same inside.book inside.health.up inside.votes inside.last inside.turns inside.queue
+    ∙ next_same inside.book inside.health.up inside.votes inside.last inside.turns
+    inside.reads.items inside.queue
     c.args.target.0 inside.queue.jobs
     ∙ ap (λ (known : Core). next_job known c.args.target.0) c.self.view_is

@@ -18,9 +18,10 @@ register-requires c =
 pub invariant_of-self : goal.invariant_of-self
 invariant_of-self c =
     let core = core_with c.self.inside.book c.self.inside.health.up c.self.inside.votes
-    c.self.inside.last c.self.inside.turns c.self.inside.queue in
+    c.self.inside.last c.self.inside.turns c.self.inside.reads.items c.self.inside.queue in
     let opening = op.Open c.args.threshold c.args.rounds c.args.voters.now in
     let is : core_with c.self.inside.book c.self.inside.health.up c.register.new.self
-    (c.self.inside.last + 1) c.self.inside.turns c.self.inside.queue ≡ next_core core opening =
+    (c.self.inside.last + 1) c.self.inside.turns c.self.inside.reads.items c.self.inside.queue
+    ≡ next_core core opening =
     search rules in
-    subst IsSound (sym is) (kept core opening tt c.self.invariant)
+    subst IsSound (sym is) (kept core opening c.self.invariant)

@@ -12,5 +12,6 @@ returns c =
     let inside = c.self.inside in
     let only = repo_number c.args.only in
     IfOk-weaker c.plan.result _ _ (λ jobs is. is
-    ∙ plan_same inside.book inside.health.up inside.votes inside.last inside.turns inside.queue only
+    ∙ plan_same inside.book inside.health.up inside.votes inside.last inside.turns
+    inside.reads.items inside.queue only
     ∙ ap (λ (known : Core). plan known only) c.self.view_is) c.plan.ensures

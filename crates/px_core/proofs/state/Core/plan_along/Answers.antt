@@ -15,7 +15,7 @@ use Rattle.px_core.proofs.state.Core.plan_along.Goals as goal
 pub told-requires-clause-known : goal.told-requires-clause-known
 told-requires-clause-known c =
     let core = core_with c.self.inside.book c.self.inside.health.up c.self.inside.votes
-    c.self.inside.last c.self.inside.turns c.self.inside.queue in
+    c.self.inside.last c.self.inside.turns c.self.inside.reads.items c.self.inside.queue in
     let book = c.args.known.now in
     let repo = c.args.repo.0 in
     let there : repository core repo ≡ Some book = subst (λ (known : Core).
@@ -34,7 +34,7 @@ told-requires-clause-known c =
 pub told-requires-clause-targets : goal.told-requires-clause-targets
 told-requires-clause-targets c =
     let core = core_with c.self.inside.book c.self.inside.health.up c.self.inside.votes
-    c.self.inside.last c.self.inside.turns c.self.inside.queue in
+    c.self.inside.last c.self.inside.turns c.self.inside.reads.items c.self.inside.queue in
     let book = c.args.known.now in
     let repo = c.args.repo.0 in
     let there : repository core repo ≡ Some book = subst (λ (known : Core).
@@ -53,7 +53,7 @@ told-requires-clause-targets c =
 pub told-requires-clause-lease : goal.told-requires-clause-lease
 told-requires-clause-lease c =
     let core = core_with c.self.inside.book c.self.inside.health.up c.self.inside.votes
-    c.self.inside.last c.self.inside.turns c.self.inside.queue in
+    c.self.inside.last c.self.inside.turns c.self.inside.reads.items c.self.inside.queue in
     let book = c.args.known.now in
     let repo = c.args.repo.0 in
     let there : repository core repo ≡ Some book = subst (λ (known : Core).
@@ -71,7 +71,7 @@ told-requires-clause-lease c =
 pub told-requires-clause-number : goal.told-requires-clause-number
 told-requires-clause-number c =
     let core = core_with c.self.inside.book c.self.inside.health.up c.self.inside.votes
-    c.self.inside.last c.self.inside.turns c.self.inside.queue in
+    c.self.inside.last c.self.inside.turns c.self.inside.reads.items c.self.inside.queue in
     let book = c.args.known.now in
     let repo = c.args.repo.0 in
     let there : repository core repo ≡ Some book = subst (λ (known : Core).
@@ -89,7 +89,7 @@ told-requires-clause-number c =
 pub panel_of-requires-clause-known : goal.panel_of-requires-clause-known
 panel_of-requires-clause-known c =
     let core = core_with c.self.inside.book c.self.inside.health.up c.self.inside.votes
-    c.self.inside.last c.self.inside.turns c.self.inside.queue in
+    c.self.inside.last c.self.inside.turns c.self.inside.reads.items c.self.inside.queue in
     let book = c.args.known.now in
     let repo = c.args.repo.0 in
     let there : repository core repo ≡ Some book = subst (λ (known : Core).
@@ -108,7 +108,7 @@ panel_of-requires-clause-known c =
 pub panel_of-requires-clause-some : goal.panel_of-requires-clause-some
 panel_of-requires-clause-some c =
     let core = core_with c.self.inside.book c.self.inside.health.up c.self.inside.votes
-    c.self.inside.last c.self.inside.turns c.self.inside.queue in
+    c.self.inside.last c.self.inside.turns c.self.inside.reads.items c.self.inside.queue in
     let book = c.args.known.now in
     let repo = c.args.repo.0 in
     let there : repository core repo ≡ Some book = subst (λ (known : Core).
@@ -127,7 +127,7 @@ panel_of-requires-clause-some c =
 pub panel_of-requires-clause-few : goal.panel_of-requires-clause-few
 panel_of-requires-clause-few c =
     let core = core_with c.self.inside.book c.self.inside.health.up c.self.inside.votes
-    c.self.inside.last c.self.inside.turns c.self.inside.queue in
+    c.self.inside.last c.self.inside.turns c.self.inside.reads.items c.self.inside.queue in
     let book = c.args.known.now in
     let repo = c.args.repo.0 in
     let there : repository core repo ≡ Some book = subst (λ (known : Core).
@@ -146,7 +146,7 @@ panel_of-requires-clause-few c =
 pub panel_of-requires-clause-lawful : goal.panel_of-requires-clause-lawful
 panel_of-requires-clause-lawful c =
     let core = core_with c.self.inside.book c.self.inside.health.up c.self.inside.votes
-    c.self.inside.last c.self.inside.turns c.self.inside.queue in
+    c.self.inside.last c.self.inside.turns c.self.inside.reads.items c.self.inside.queue in
     let book = c.args.known.now in
     let repo = c.args.repo.0 in
     let there : repository core repo ≡ Some book = subst (λ (known : Core).
@@ -165,7 +165,7 @@ panel_of-requires-clause-lawful c =
 pub returns : goal.returns
 returns c =
     let core = core_with c.self.inside.book c.self.inside.health.up c.self.inside.votes
-    c.self.inside.last c.self.inside.turns c.self.inside.queue in
+    c.self.inside.last c.self.inside.turns c.self.inside.reads.items c.self.inside.queue in
     let book = c.args.known.now in
     let repo = c.args.repo.0 in
     let there : repository core repo ≡ Some book = subst (λ (known : Core).

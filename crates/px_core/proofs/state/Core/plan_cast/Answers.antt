@@ -9,7 +9,7 @@ use Rattle.px_core.proofs.state.Core.plan_cast.Goals as goal
 pub unreachable-requires : goal.unreachable-requires
 unreachable-requires c =
     let core = core_with c.self.inside.book c.self.inside.health.up c.self.inside.votes
-    c.self.inside.last c.self.inside.turns c.self.inside.queue in
+    c.self.inside.last c.self.inside.turns c.self.inside.reads.items c.self.inside.queue in
     let push = c.args.push.now in
     let found : push_of core push.tx ≡ Some push = subst (λ (known : Core).
     push_of known push.tx ≡ Some push) (sym c.self.view_is) c.requires in
@@ -21,7 +21,7 @@ unreachable-requires c =
 pub book_cast-requires : goal.book_cast-requires
 book_cast-requires c =
     let core = core_with c.self.inside.book c.self.inside.health.up c.self.inside.votes
-    c.self.inside.last c.self.inside.turns c.self.inside.queue in
+    c.self.inside.last c.self.inside.turns c.self.inside.reads.items c.self.inside.queue in
     let push = c.args.push.now in
     let found : push_of core push.tx ≡ Some push = subst (λ (known : Core).
     push_of known push.tx ≡ Some push) (sym c.self.view_is) c.requires in

@@ -18,7 +18,7 @@ pub jobs_told-requires : goal.jobs_told-requires
 jobs_told-requires c =
     let inside = c.self.inside in
     let core = core_with inside.book inside.health.up inside.votes inside.last inside.turns
-    inside.queue in
+    inside.reads.items inside.queue in
     let only = repo_number c.args.only in
     let are : c.as_slice.result.now ≡ plan core only = c.as_slice.ensures ∙ c.in_ok-jobs.ensures
     ∙ ap (λ (known : Core). plan known only) (sym c.self.view_is) in
@@ -28,7 +28,7 @@ pub enqueue_all-requires-clause-numbers : goal.enqueue_all-requires-clause-numbe
 enqueue_all-requires-clause-numbers c =
     let inside = c.self.inside in
     let core = core_with inside.book inside.health.up inside.votes inside.last inside.turns
-    inside.queue in
+    inside.reads.items inside.queue in
     let only = repo_number c.args.only in
     let are : c.as_slice-2.result.now ≡ plan core only =
     c.as_slice-2.ensures ∙ c.in_ok-jobs.ensures
@@ -40,7 +40,7 @@ pub enqueue_all-requires-clause-ready : goal.enqueue_all-requires-clause-ready
 enqueue_all-requires-clause-ready c =
     let inside = c.self.inside in
     let core = core_with inside.book inside.health.up inside.votes inside.last inside.turns
-    inside.queue in
+    inside.reads.items inside.queue in
     let only = repo_number c.args.only in
     let are : c.as_slice-2.result.now ≡ plan core only =
     c.as_slice-2.ensures ∙ c.in_ok-jobs.ensures
@@ -52,12 +52,12 @@ pub invariant_of-self-2 : goal.invariant_of-self-2
 invariant_of-self-2 c =
     let inside = c.self.inside in
     let core = core_with inside.book inside.health.up inside.votes inside.last inside.turns
-    inside.queue in
+    inside.reads.items inside.queue in
     let only = repo_number c.args.only in
     let jobs = c.as_slice-2.result.now in
     let are : jobs ≡ plan core only = c.as_slice-2.ensures ∙ c.in_ok-jobs.ensures
     ∙ ap (λ (known : Core). plan known only) (sym c.self.view_is) in
     subst IsSound (sym (plan_in inside.book inside.health.up inside.votes inside.last inside.turns
-    inside.queue c.enqueue_all.new.self jobs c.in_ok-enqueue_all.ensures.ok
+    inside.reads.items inside.queue c.enqueue_all.new.self jobs c.in_ok-enqueue_all.ensures.ok
     ∙ ap (λ (js : List Job). with_plan js core) are))
-    (kept core (op.Reconcile c.args.only) tt c.self.invariant)
+    (kept core (op.Reconcile c.args.only) c.self.invariant)

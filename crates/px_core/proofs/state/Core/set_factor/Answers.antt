@@ -17,7 +17,7 @@ pub names_of-requires : goal.names_of-requires
 names_of-requires c =
     let inside = c.self.inside in
     let core = core_with inside.book inside.health.up inside.votes inside.last inside.turns
-    inside.queue in
+    inside.reads.items inside.queue in
     let storages = c.in_ok-storages.storages.items in
     let is = subst (λ (known : Core). IsAssignment known c.args.repo.0 c.args.factor
     (numbers_of storages)) (sym c.self.view_is) c.in_ok-storages.ensures.ok in
@@ -40,7 +40,7 @@ pub invariant_of-self : goal.invariant_of-self
 invariant_of-self c =
     let inside = c.self.inside in
     let core = core_with inside.book inside.health.up inside.votes inside.last inside.turns
-    inside.queue in
+    inside.reads.items inside.queue in
     let storages = c.in_ok-storages.storages.items in
     let names = c.in_ok-names.names in
     let is = subst (λ (known : Core). IsAssignment known c.args.repo.0 c.args.factor
@@ -50,9 +50,10 @@ invariant_of-self c =
     let becomes = subst (λ (ids : List StorageId). Becomes c.args.repo.0
     (assigned_to (numbers_of ids)) inside.book c.assign.new.self) c.deref-2.ensures.value
     c.assign.ensures in
-    done_sound core _ (op.SetFactor c.args.repo c.args.factor) (reply.Assigned names) tt
+    done_sound core _ (op.SetFactor c.args.repo c.args.factor) (reply.Assigned names)
     c.self.invariant (set_factor_done inside.book c.assign.new.self inside.health.up inside.votes
-    inside.last inside.turns inside.queue c.args.repo c.args.factor (numbers_of storages) names
+    inside.last inside.turns inside.reads.items inside.queue c.args.repo c.args.factor
+    (numbers_of storages) names
     c.self.invariant is named becomes)
 
 pub returns : goal.returns
@@ -69,7 +70,8 @@ returns c =
     c.assign.ensures in
     subst (λ (known : Core). IsDone known (op.SetFactor c.args.repo c.args.factor)
     (reply.Assigned names) (core_with c.assign.new.self inside.health.up inside.votes inside.last
-    inside.turns inside.queue)) c.self.view_is
+    inside.turns inside.reads.items inside.queue)) c.self.view_is
     (set_factor_done inside.book c.assign.new.self inside.health.up inside.votes inside.last
-    inside.turns inside.queue c.args.repo c.args.factor (numbers_of storages) names
+    inside.turns inside.reads.items inside.queue c.args.repo c.args.factor
+    (numbers_of storages) names
     c.self.invariant is named becomes)

@@ -9,8 +9,9 @@ pub invariant_of-self : goal.invariant_of-self
 invariant_of-self c =
     let inside = c.self.inside in
     let core = core_with inside.book inside.health.up inside.votes inside.last inside.turns
-    inside.queue in
-    stale_leads inside.book inside.health.up inside.votes inside.last inside.turns inside.queue
+    inside.reads.items inside.queue in
+    stale_leads inside.book inside.health.up inside.votes inside.last inside.turns
+    inside.reads.items inside.queue
     c.stale.new.self c.args.now c.args.after IsSound c.stale.result c.stale.ensures.ok
     c.stale.ensures.err c.self.invariant
-    (kept core (op.Stale c.args.now c.args.after) tt c.self.invariant)
+    (kept core (op.Stale c.args.now c.args.after) c.self.invariant)

@@ -11,8 +11,8 @@ use Rattle.px_core.proofs.state.Core.stop.Goals as goal
 pub invariant_of-self : goal.invariant_of-self
 invariant_of-self c =
     let core = core_with c.self.inside.book c.self.inside.health.up c.self.inside.votes
-    c.self.inside.last c.self.inside.turns c.self.inside.queue in
+    c.self.inside.last c.self.inside.turns c.self.inside.reads.items c.self.inside.queue in
     subst IsSound (sym (mark_leads core c.args.tx stop_answer after_stop stopped c.stop.result
     c.in-Ok.field-0 c.stop.new.self c.stop-in-Ok.new.self c.stop.ensures.answer c.in-Ok.is
     c.stop.ensures.state c.stop-in-Ok.ensures))
-    (kept core (op.Stop c.args.tx) tt c.self.invariant)
+    (kept core (op.Stop c.args.tx) c.self.invariant)

@@ -20,7 +20,7 @@ pub told-told-requires-clause-source : goal.told-told-requires-clause-source
 told-told-requires-clause-source c =
     let inside = c.self.inside in
     let core = core_with inside.book inside.health.up inside.votes inside.last inside.turns
-    inside.queue in
+    inside.reads.items inside.queue in
     let work = c.args.work.now in
     let is = subst (λ (known : Core). IsWork known work.job.target.0 work) (sym c.self.view_is)
     c.requires in
@@ -30,7 +30,7 @@ pub book_taken-requires-clause-known : goal.book_taken-requires-clause-known
 book_taken-requires-clause-known c =
     let inside = c.self.inside in
     let core = core_with inside.book inside.health.up inside.votes inside.last inside.turns
-    inside.queue in
+    inside.reads.items inside.queue in
     let work = c.args.work.now in
     let is = subst (λ (known : Core). IsWork known work.job.target.0 work) (sym c.self.view_is)
     c.requires in
@@ -40,7 +40,7 @@ pub take-requires-clause-waits : goal.take-requires-clause-waits
 take-requires-clause-waits c =
     let inside = c.self.inside in
     let core = core_with inside.book inside.health.up inside.votes inside.last inside.turns
-    inside.queue in
+    inside.reads.items inside.queue in
     let work = c.args.work.now in
     let is = subst (λ (known : Core). IsWork known work.job.target.0 work) (sym c.self.view_is)
     c.requires in
@@ -53,7 +53,7 @@ pub invariant_of-self-2 : goal.invariant_of-self-2
 invariant_of-self-2 c =
     let inside = c.self.inside in
     let core = core_with inside.book inside.health.up inside.votes inside.last inside.turns
-    inside.queue in
+    inside.reads.items inside.queue in
     let work = c.args.work.now in
     let is = subst (λ (known : Core). IsWork known work.job.target.0 work) (sym c.self.view_is)
     c.requires in
@@ -61,18 +61,19 @@ invariant_of-self-2 c =
     let makes = c.take.ensures.rule is.book from (is_given core work.job.target.0 work is)
     ∙ ap (with_job_changed work.job.number (as_taken is.book from c.args.now))
     c.reserve.ensures.same in
-    done_sound core _ (op.Dequeue work.job.target c.args.now) (reply.Taken (work_told core work)) tt
+    done_sound core _ (op.Dequeue work.job.target c.args.now) (reply.Taken (work_told core work))
     c.self.invariant (take_done inside.book inside.health.up inside.votes inside.last inside.turns
-    inside.queue c.take.new.self work.job.target c.args.now c.book_taken.new.book work is
+    inside.reads.items inside.queue c.take.new.self work.job.target c.args.now c.book_taken.new.book
+    work is
     c.book_taken.ensures makes)
 
 pub returns : goal.returns
 returns c =
     let inside = c.self.inside in
     let core = core_with inside.book inside.health.up inside.votes inside.last inside.turns
-    inside.queue in
+    inside.reads.items inside.queue in
     let after_ = core_with c.book_taken.new.book inside.health.up inside.votes inside.last
-    inside.turns c.take.new.self in
+    inside.turns inside.reads.items c.take.new.self in
     let work = c.args.work.now in
     let is = subst (λ (known : Core). IsWork known work.job.target.0 work) (sym c.self.view_is)
     c.requires in
@@ -86,5 +87,6 @@ returns c =
     (subst (λ (told : TakenJob). IsDone core asked (reply.Taken told) after_)
     (sym c.told-told.ensures)
     (take_done inside.book inside.health.up inside.votes inside.last inside.turns
-    inside.queue c.take.new.self work.job.target c.args.now c.book_taken.new.book work is
+    inside.reads.items inside.queue c.take.new.self work.job.target c.args.now c.book_taken.new.book
+    work is
     c.book_taken.ensures makes))

@@ -10,8 +10,8 @@ use Rattle.px_core.proofs.state.Core.withdraw.Goals as goal
 pub invariant_of-self : goal.invariant_of-self
 invariant_of-self c =
     let core = core_with c.self.inside.book c.self.inside.health.up c.self.inside.votes
-    c.self.inside.last c.self.inside.turns c.self.inside.queue in
+    c.self.inside.last c.self.inside.turns c.self.inside.reads.items c.self.inside.queue in
     subst IsSound (sym (call_leads core c.args.tx (cancel_voter_answer c.args.voter.now)
     (after_cancel_voter c.args.voter.now) c.cancel_voter.result c.cancel_voter.new.self
     c.cancel_voter.ensures.answer c.cancel_voter.ensures.state c.cancel_voter.ensures.same))
-    (kept core (op.Withdraw c.args.tx c.args.voter.now) tt c.self.invariant)
+    (kept core (op.Withdraw c.args.tx c.args.voter.now) c.self.invariant)

@@ -7,6 +7,7 @@ pub mod NameLemmas
 pub mod NumberLemmas
 pub mod PushLemmas
 pub mod PushLines
+pub mod RepairLines
 pub mod StepLemmas
 pub mod VoteLines
 pub mod VoterLemmas

@@ -4,11 +4,12 @@ use Rattle.std.specs.List.{AllByRecursion, join_with_byte, onto_first}
 use Rattle.std.specs.Option.{option_map, option_or}
 use Rattle.std.proofs.lemmas.List.Splits.{join_with_byte-slice_split}
 use Rattle.px_ops.specs.declared.op.Op.{Op}
-use Rattle.px_ops.specs.declared.op.Op.TheVariants.{Ack, Admit, Beat, Begin, Booked, Cancel, Cast, Close, Collect, Create, Finish, Holder, Open, Outcome, Reconcile, SetFactor, Stale, Stop, Withdraw}
+use Rattle.px_ops.specs.declared.op.Op.TheVariants.{Ack, Admit, Beat, Begin, Booked, Cancel, Cast, Close, Collect, Create, Finish, Holder, Open, Outcome, Reconcile, RouteRead, SetFactor, Stale, Stop, Withdraw}
 use Rattle.px_script.specs.ClusterReading.{cluster_of}
 use Rattle.px_script.specs.JobReading.{job_of}
 use Rattle.px_script.specs.LineReading.{FirstTakesMemory, event_of}
 use Rattle.px_script.specs.PushReading.{push_of}
+use Rattle.px_script.specs.RepairReading.{repair_of}
 use Rattle.px_script.specs.Spelling.{AreWordsOf, Asks, IsSilent, IsSpelledOp, MayTakeMemory, Spells}
 use Rattle.px_script.specs.VoteReading.{vote_of}
 use Rattle.px_script.specs.VoteSpelling.{IsVoteLine}
@@ -18,6 +19,7 @@ use Rattle.px_script.specs.declared.event.Event.TheVariants.{Operation}
 use Rattle.px_script.proofs.ClusterLines.{cluster_of-cluster_words, cluster_of-some, cluster_words-whole}
 use Rattle.px_script.proofs.JobLines.{job_of-job_words, job_of-some, job_words-whole}
 use Rattle.px_script.proofs.PushLines.{push_line-whole, push_of-line, push_of-some}
+use Rattle.px_script.proofs.RepairLines.{repair_of-repair_words, repair_of-some, repair_words-whole}
 use Rattle.px_script.proofs.VoteLines.{vote_of-some, vote_of-vote_words, vote_words-whole}
 use Rattle.px_script.proofs.WordLemmas.{IsWhole, line_words-joined, same_words}
 
@@ -31,8 +33,10 @@ words-whole : (event : Event) (words : List (List ℕ)) → AreWordsOf event wor
 words-whole event words (inl vote) = vote_line-whole event words vote
 words-whole event words (inr (inl cluster)) = same_words 32 words _ cluster.1 (cluster_words-whole event cluster.0)
 words-whole event words (inr (inr (inl push))) = push_line-whole event words push
-words-whole event words (inr (inr (inr job))) =
+words-whole event words (inr (inr (inr (inl job)))) =
     same_words 32 words _ job.1 (job_words-whole event job.0)
+words-whole event words (inr (inr (inr (inr repair)))) =
+    same_words 32 words _ repair.1 (repair_words-whole event repair.0)
 
 -- what a line on votes asks is read back
 vote_line-read : (event : Event) (words : List (List ℕ)) → IsVoteLine event words → event_of words ≡ Some event
@@ -50,31 +54,39 @@ event_of-words event words (inr (inl cluster)) =
 event_of-words event words (inr (inr (inl push))) =
     let back = push_of-line event words push in
     ap event_of back.2 ∙ rw (back.3, back.4, back.5) refl
-event_of-words event words (inr (inr (inr job))) =
+event_of-words event words (inr (inr (inr (inl job)))) =
     let back = job_of-job_words event job.0 in
     ap event_of (job.1 ∙ back.2) ∙ rw (back.3, back.4, back.5, back.6) refl
+event_of-words event words (inr (inr (inr (inr repair)))) =
+    let back = repair_of-repair_words event repair.0 in
+    ap event_of (repair.1 ∙ back.2) ∙ rw (back.3, back.4, back.5, back.6, back.7) refl
 
 -- what is read as an event is its words
 event_of-some : (words : List (List ℕ)) (event : Event) → event_of words ≡ Some event → AreWordsOf event words
 event_of-some [] event is = cc
 event_of-some (first ∷ words) event is =
-    by (vote_of first words) (cluster_of first words) (push_of first words) event refl refl refl is
+    by (vote_of first words) (cluster_of first words) (push_of first words) (job_of first words)
+    event refl refl refl refl is
   where
-    by : (vote : Option Op) (cluster push : Option Event) (event : Event)
+    by : (vote : Option Op) (cluster push job : Option Event) (event : Event)
         → vote_of first words ≡ vote → cluster_of first words ≡ cluster
-        → push_of first words ≡ push
+        → push_of first words ≡ push → job_of first words ≡ job
         → option_or (option_map Operation vote)
-        (option_or cluster (option_or push (job_of first words))) ≡ Some event
+        (option_or cluster (option_or push (option_or job (repair_of first words)))) ≡ Some event
         → AreWordsOf event (first ∷ words)
-    by (Some made) cluster push (Operation op) v c p is =
+    by (Some made) cluster push job (Operation op) v c p j is =
         let same : made ≡ op = cc in
         let line = vote_of-some first words op (v ∙ ap (λ (o : Op). Some o) same) in
         inl (line.0, sym line.1)
-    by (Some made) cluster push other v c p is = absurd (cc)
-    by None (Some made) push event v c p is = inr (inl (cluster_of-some first words event (c ∙ is)))
-    by None None (Some made) event v c p is =
+    by (Some made) cluster push job other v c p j is = absurd (cc)
+    by None (Some made) push job event v c p j is =
+        inr (inl (cluster_of-some first words event (c ∙ is)))
+    by None None (Some made) job event v c p j is =
         inr (inr (inl (push_of-some first words event (p ∙ is))))
-    by None None None event v c p is = inr (inr (inr (job_of-some first words event is)))
+    by None None None (Some made) event v c p j is =
+        inr (inr (inr (inl (job_of-some first words event (j ∙ is)))))
+    by None None None None event v c p j is =
+        inr (inr (inr (inr (repair_of-some first words event is))))
 
 -- words that are joined and cut give the same event
 event_of-joined : (words : List (List ℕ)) → AllByRecursion (IsWhole 32) words → event_of (line_words (join_with_byte 32 words)) ≡ event_of words
@@ -149,10 +161,12 @@ spelled_op (Ack job held good) words are = tt
 spelled_op (Beat job held now) words are = tt
 spelled_op (Stale now after) words are = tt
 spelled_op (SetFactor repo factor) words are = tt
+spelled_op (RouteRead repo) words are = tt
 spelled_op other words (inl vote) = absurd vote.0
 spelled_op other words (inr (inl cluster)) = absurd cluster.0
 spelled_op other words (inr (inr (inl push))) = absurd push
-spelled_op other words (inr (inr (inr job))) = absurd job.0
+spelled_op other words (inr (inr (inr (inl job)))) = absurd job.0
+spelled_op other words (inr (inr (inr (inr repair)))) = absurd repair.0
 
 -- so a line asks for no other operation
 pub asked_op : (op : Op) (line : List ℕ) → Asks (Some (Operation op)) line → IsSpelledOp op

@@ -19,7 +19,8 @@ use Rattle.px_ops.specs.VoteTexts.{phase_word}
 use Rattle.px_script.specs.ClusterSpelling.{health_word}
 use Rattle.px_script.specs.JobSpelling.{IsLawfulWork}
 use Rattle.px_script.specs.Names.{path_of}
-use Rattle.px_script.specs.Reading.{job_lease_of, repo_of, tx_name_of, tx_of}
+use Rattle.px_script.specs.Reading.{job_lease_of, repo_name_lease_of, repo_name_of, repo_of, tx_name_of, tx_of}
+use Rattle.px_script.specs.RepairSpelling.{IsLawfulFenced, IsLawfulReplica}
 use Rattle.px_script.specs.Words.{end_of, first_of, health_of, lease_of, name_of, number_of, phase_of, small_of}
 use Rattle.px_script.proofs.NameLemmas.{name_of-some, path_of-some, whole-name}
 use Rattle.px_script.proofs.NumberLemmas.{lease_of-some, number_of-some, small_of-some, whole-decimal}
@@ -148,6 +149,35 @@ only_job_and_lease words work is =
     subst
     (λ (w : JobId × ℕ). IsLawfulWork w.0 w.1 × (words ≡ decimal w.0.0 ∷ decimal w.1 ∷ [])) last.1
     ((number.1, held.1), cc (number.2, held.2, last.0))
+
+-- what is read as a repository and a storage is their words
+pub only_repo_and_name : (words : List (List ℕ)) (at : RepoId × List ℕ)
+    → repo_name_of words ≡ Some at
+    → IsLawfulReplica at.0 at.1 × (words ≡ decimal at.0.0 ∷ at.1 ∷ [])
+only_repo_and_name words at is =
+    let repo = small_step words _ at is in
+    let second = drop 1 words in
+    let storage = name_step second _ at repo.3 in
+    let last = end_step (drop 1 second) _ at storage.3 in
+    subst
+    (λ (a : RepoId × List ℕ). IsLawfulReplica a.0 a.1 × (words ≡ decimal a.0.0 ∷ a.1 ∷ [])) last.1
+    ((repo.1, storage.1), cc (repo.2, storage.2, last.0))
+
+-- what is read as a repository, a storage and a lease is their words
+pub only_repo_name_and_lease : (words : List (List ℕ)) (at : RepoId × List ℕ × ℕ)
+    → repo_name_lease_of words ≡ Some at
+    → IsLawfulFenced at.0 at.1 at.2 × (words ≡ decimal at.0.0 ∷ at.1 ∷ decimal at.2 ∷ [])
+only_repo_name_and_lease words at is =
+    let repo = small_step words _ at is in
+    let second = drop 1 words in
+    let storage = name_step second _ at repo.3 in
+    let third = drop 1 second in
+    let held = lease_step third _ at storage.3 in
+    let last = end_step (drop 1 third) _ at held.3 in
+    subst
+    (λ (a : RepoId × List ℕ × ℕ). IsLawfulFenced a.0 a.1 a.2
+    × (words ≡ decimal a.0.0 ∷ a.1 ∷ decimal a.2 ∷ [])) last.1
+    (((repo.1, storage.1), held.1), cc (repo.2, storage.2, held.2, last.0))
 
 -- a line of something that is read of its words, and made an event
 pub made_line : {A E : Type 0} (IsLine : List (List ℕ) → E → Type 0) (text : List ℕ) (make : A → E) (read : List (List ℕ) → Option A)

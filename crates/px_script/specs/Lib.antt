@@ -8,6 +8,8 @@ pub mod PushReading
 pub mod PushSpelling
 pub mod PushWords
 pub mod Reading
+pub mod RepairReading
+pub mod RepairSpelling
 pub mod Spelling
 pub mod VoteReading
 pub mod VoteSpelling

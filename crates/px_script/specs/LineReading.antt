@@ -4,6 +4,7 @@ use Rattle.std.specs.Option.{option_or}
 use Rattle.px_script.specs.ClusterReading.{cluster_of}
 use Rattle.px_script.specs.JobReading.{job_of}
 use Rattle.px_script.specs.PushReading.{push_of}
+use Rattle.px_script.specs.RepairReading.{repair_of}
 use Rattle.px_script.specs.Spelling.{TakesMemory}
 use Rattle.px_script.specs.VoteReading.{vote_of}
 use Rattle.px_script.specs.declared.event.Event.{Event}
@@ -14,7 +15,8 @@ abbrev pub event_behind : List ℕ → List (List ℕ) → Option Event
 event_behind first words =
     option_or (option_map Operation (vote_of first words))
     (option_or (cluster_of first words)
-    (option_or (push_of first words) (job_of first words)))
+    (option_or (push_of first words)
+    (option_or (job_of first words) (repair_of first words))))
 
 -- the event of some words
 abbrev pub event_of : List (List ℕ) → Option Event

@@ -33,3 +33,17 @@ job_lease_of words =
 -- a repository, and no more
 abbrev pub repo_of : List (List ℕ) → Option RepoId
 repo_of words = and_then small_of words (λ repo words. at_end (record { 0 = repo }) words)
+
+-- a repository and a storage, and no more
+abbrev pub repo_name_of : List (List ℕ) → Option (RepoId × List ℕ)
+repo_name_of words =
+    and_then small_of words (λ repo words.
+    and_then name_of words (λ name words. at_end (record { 0 = repo }, name) words))
+
+-- a repository, a storage and a lease, and no more
+abbrev pub repo_name_lease_of : List (List ℕ) → Option (RepoId × List ℕ × ℕ)
+repo_name_lease_of words =
+    and_then small_of words (λ repo words.
+    and_then name_of words (λ name words.
+    and_then lease_of words (λ lease words.
+    at_end (record { 0 = repo }, name, lease) words)))

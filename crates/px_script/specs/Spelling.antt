@@ -2,10 +2,11 @@
 use Rattle.std.specs.Prelude.{◌≡◌, ◌⊎◌, ℕ, List, [], ◌∷◌, ◌++◌, Option, Some, None, codes, ⊤}
 use Rattle.std.specs.List.{join_with_byte}
 use Rattle.px_ops.specs.declared.op.Op.{Op}
-use Rattle.px_ops.specs.declared.op.Op.TheVariants.{Ack, Admit, Beat, Begin, Booked, Cancel, Cast, Close, Collect, Create, Finish, Holder, Open, Outcome, Reconcile, SetFactor, Stale, Stop, Withdraw}
+use Rattle.px_ops.specs.declared.op.Op.TheVariants.{Ack, Admit, Beat, Begin, Booked, Cancel, Cast, Close, Collect, Create, Finish, Holder, Open, Outcome, Reconcile, RouteRead, SetFactor, Stale, Stop, Withdraw}
 use Rattle.px_script.specs.ClusterSpelling.{IsClusterLine}
 use Rattle.px_script.specs.JobSpelling.{IsJobLine}
 use Rattle.px_script.specs.PushSpelling.{IsPushLine}
+use Rattle.px_script.specs.RepairSpelling.{IsRepairLine}
 use Rattle.px_script.specs.VoteSpelling.{IsVoteLine}
 use Rattle.px_script.specs.declared.event.Event.{Event}
 use Rattle.px_script.specs.declared.script_line.ScriptLine.{ScriptLine}
@@ -16,7 +17,7 @@ use Rattle.px_script.specs.declared.script_line.ScriptLine.TheVariants as answer
 abbrev pub AreWordsOf : Event → List (List ℕ) → Type 0
 AreWordsOf event words =
     IsVoteLine event words ⊎ IsClusterLine event words ⊎ IsPushLine event words
-    ⊎ IsJobLine event words
+    ⊎ IsJobLine event words ⊎ IsRepairLine event words
 
 -- the line asks for the event: words of it, with one space between each two
 pub record Spells (event : Event) (line : List ℕ) : Type 0 where
@@ -46,6 +47,7 @@ IsSpelledOp (Ack job lease good) = ⊤
 IsSpelledOp (Beat job lease now) = ⊤
 IsSpelledOp (Stale now after) = ⊤
 IsSpelledOp (SetFactor repo factor) = ⊤
+IsSpelledOp (RouteRead repo) = ⊤
 IsSpelledOp other = ⊥
 
 -- an empty line, or one that begins with '#'

@@ -93,4 +93,45 @@ pub enum Event {
         /// The lease under which a worker took it.
         lease: Lease,
     },
+    /// Draws a lease by which a storage is fenced before its content is accepted.
+    AcceptBegin {
+        /// The repository.
+        repo: RepoId,
+        /// The storage.
+        name: StorageName,
+    },
+    /// Draws a lease by which a storage in doubt is fenced before it is settled.
+    SettleBegin {
+        /// The repository.
+        repo: RepoId,
+        /// The storage.
+        name: StorageName,
+    },
+    /// A storage is to take no push under an older lease than this one.
+    Fence {
+        /// The storage.
+        name: StorageName,
+        /// The repository.
+        repo: RepoId,
+        /// The lease.
+        lease: Lease,
+    },
+    /// Takes the content that a storage has as the newest generation, whatever was decided.
+    Accept {
+        /// The repository.
+        repo: RepoId,
+        /// The storage.
+        name: StorageName,
+        /// The lease by which it was fenced.
+        lease: Lease,
+    },
+    /// Books what became of a storage in doubt, by what it answered to the fence.
+    Settle {
+        /// The repository.
+        repo: RepoId,
+        /// The storage.
+        name: StorageName,
+        /// The lease by which it was fenced.
+        lease: Lease,
+    },
 }

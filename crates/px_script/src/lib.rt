@@ -1,7 +1,7 @@
 //! The lines of a script: the events that they ask for, how each is spelled, and the reader of a
 //! line. A family of lines has one file of readers, one in specs/ of how its lines are spelled and one
 //! of what is read, and one in proofs/. The families are the lines on votes, those on storages and
-//! repositories, those on pushes, and those on replication jobs.
+//! repositories, those on pushes, those on replication jobs, and those on reads and repairs.
 #![tactic(auto)]
 
 mod clusters;
@@ -14,6 +14,7 @@ mod number;
 mod push_lists;
 mod pushes;
 mod reader;
+mod repairs;
 mod script_line;
 mod voter_list;
 mod votes;

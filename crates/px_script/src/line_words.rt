@@ -3,7 +3,8 @@
 ghost use Rattle.std.specs.Prelude.{◌≡◌, ◌∷◌, [], IfNone, IfOk, IfSome, bytes_eq, drop};
 ghost use Rattle.px_base.specs.Hash.{hash_of};
 ghost use Rattle.px_script.specs.Names.{path_of, ref_of};
-ghost use Rattle.px_script.specs.Reading.{job_lease_of, repo_of, tx_name_of, tx_of};
+ghost use Rattle.px_script.specs.Reading.{job_lease_of, repo_name_lease_of, repo_name_of, repo_of};
+ghost use Rattle.px_script.specs.Reading.{tx_name_of, tx_of};
 ghost use Rattle.px_script.specs.Words.{end_of, first_of, health_of, lease_of, line_words, name_of};
 ghost use Rattle.px_script.specs.Words.{number_of, phase_of, small_of};
 
@@ -174,6 +175,27 @@ impl<'a> LineWords<'a> {
         let repo = RepoId(self.small()?);
         self.end()?;
         Some(repo)
+    }
+
+    /// All that is left, as a repository and the name of a storage.
+    pub fn only_repo_and_name(&mut self) -> Option<(RepoId, StorageName)>
+        ensures { result ≡ repo_name_of self.old }
+    {
+        let repo = RepoId(self.small()?);
+        let name = self.name()?;
+        self.end()?;
+        Some((repo, name))
+    }
+
+    /// All that is left, as a repository, the name of a storage and a lease.
+    pub fn only_repo_name_and_lease(&mut self) -> Option<(RepoId, StorageName, Lease)>
+        ensures { result ≡ repo_name_lease_of self.old }
+    {
+        let repo = RepoId(self.small()?);
+        let name = self.name()?;
+        let lease = self.lease()?;
+        self.end()?;
+        Some((repo, name, lease))
     }
 
     /// Whether no word is left.

@@ -9,6 +9,7 @@ use crate::clusters::read_cluster;
 use crate::jobs::read_job;
 use crate::line_words::LineWords;
 use crate::pushes::read_push;
+use crate::repairs::read_repair;
 use crate::votes::read_vote;
 use crate::{Event, ScriptLine};
 use std::alloc::{AllocError, Global};
@@ -42,7 +43,10 @@ fn read_behind(
     if let Some(event) = read_push(alloc, first, &mut words.copy())? {
         return Ok(Some(event));
     }
-    Ok(read_job(first, words))
+    if let Some(event) = read_job(first, &mut words.copy()) {
+        return Ok(Some(event));
+    }
+    Ok(read_repair(first, words))
 }
 
 // The event of a line that is not silent.

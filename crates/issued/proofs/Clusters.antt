@@ -10,11 +10,11 @@ use Rattle.px_base.specs.declared.hash.Hash.{Hash}
 use Rattle.px_base.specs.declared.ids.TxId.{TxId}
 use Rattle.px_cluster.specs.Cluster.{with_ledger, with_value}
 use Rattle.px_cluster.specs.Issues.{with_drawn}
-use Rattle.px_cluster.specs.Ledger.{Ledger, Purpose, Pushing, answered, with_commit, with_purpose, with_purposes, with_snapshot}
+use Rattle.px_cluster.specs.Ledger.{Fencing, Ledger, Purpose, Pushing, answered, with_commit, with_last, with_purpose, with_purposes, with_snapshot}
 use Rattle.px_cluster.specs.Numbers.{is_one_of}
 use Rattle.issued.specs.Draws.{ledger_of}
 use Rattle.issued.specs.Entries.{Entries}
-use Rattle.issued.specs.Issued.{IssuesCommit, IssuesPush, KeepsAnswer, KeepsSnapshot, cluster_of, pushed_of, with_work, worked_of}
+use Rattle.issued.specs.Issued.{IssuesCommit, IssuesPush, KeepsAnswer, KeepsFenceAnswer, KeepsSnapshot, cluster_of, pushed_of, with_fence, with_work, worked_of}
 use Rattle.issued.specs.Room.{MakesRoom}
 
 -- there is room for a push or a job where it was made
@@ -67,12 +67,25 @@ module _ (old new : Entries) where
   answer_kept repo storage lease leads stay effect r s l =
       rw (r, s, l) (with_ledger_alone _ leads stay)
 
+  pub fence_answer_kept : (repo storage lease : ℕ) (last : Option ℕ)
+      → ledger_of new.draws ≡ with_purpose (ledger_of old.draws) repo storage lease
+      (with_last last (ledger_of old.draws repo storage lease))
+      → OthersStay → KeepsFenceAnswer repo storage lease last old new
+  fence_answer_kept repo storage lease last leads stay effect r s l =
+      rw (r, s, l) (with_ledger_alone _ leads stay)
+
   pub snapshot_kept : (repo storage lease : ℕ) (snapshot : Snapshot)
       → ledger_of new.draws ≡ with_purpose (ledger_of old.draws) repo storage lease
       (with_snapshot snapshot (ledger_of old.draws repo storage lease))
       → OthersStay → KeepsSnapshot repo storage lease snapshot old new
   snapshot_kept repo storage lease snapshot leads stay effect r s l =
       rw (r, s, l) (with_ledger_alone _ leads stay)
+
+  pub fence_issued : (repo storage lease : ℕ)
+      → ledger_of new.draws
+      ≡ with_purpose (ledger_of old.draws) repo storage lease (Fencing None)
+      → OthersStay → cluster_of new ≡ with_fence (cluster_of old) repo storage lease
+  fence_issued repo storage lease leads stay = with_ledger_alone _ leads stay
 
   pub commit_issued : (repo storage lease : ℕ) (hash : Hash)
       → ledger_of new.draws ≡ with_purposes (ledger_of old.draws) repo

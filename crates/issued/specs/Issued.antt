@@ -1,5 +1,5 @@
 -- What was issued, as the cluster has it.
-use Rattle.std.specs.Prelude.{◌≡◌, ℕ, List, IsSome, Option, Some}
+use Rattle.std.specs.Prelude.{◌≡◌, ℕ, List, IsSome, Option, None, Some}
 use Rattle.std.specs.BTreeMap.{is_at}
 use Rattle.std.specs.Map.{lookup}
 use Rattle.std.specs.Option.{option_flatten, option_map}
@@ -14,7 +14,7 @@ use Rattle.px_cluster.specs.Core.{OpenPush}
 use Rattle.px_cluster.specs.Deliveries.{with_answer}
 use Rattle.px_cluster.specs.Effects.{Effect}
 use Rattle.px_cluster.specs.Issues.{issues_commit_at, issues_push}
-use Rattle.px_cluster.specs.Ledger.{Purpose, answered, with_purpose, with_snapshot}
+use Rattle.px_cluster.specs.Ledger.{Fencing, Purpose, answered, with_last, with_purpose, with_snapshot}
 use Rattle.issued.specs.Draws.{HasRoom, KeepsRoom as KeepsDraws, draw_of, ledger_of, room_at}
 use Rattle.issued.specs.Entries.{Entries, Pushes, Works}
 
@@ -96,6 +96,11 @@ with_work cluster job repo target lease purpose =
       worked = with_value cluster.worked job (Some (record { repo = repo; number = target }));
     }
 
+-- a fence of a replica, which its node has not answered yet
+abbrev pub with_fence : Cluster → (repo storage lease : ℕ) → Cluster
+with_fence cluster repo storage lease = with_ledger cluster
+    (with_purpose cluster.ledger repo storage lease (Fencing None))
+
 -- ---- what is kept
 
 -- the answer of the node of a storage to the effect under the lease, whatever the path of the
@@ -110,3 +115,9 @@ abbrev pub KeepsSnapshot : (repo storage lease : ℕ) → Snapshot → Entries �
 KeepsSnapshot repo storage lease snapshot old new = (effect : Effect) → effect.at.repo ≡ repo
     → effect.at.storage ≡ storage → effect.lease ≡ lease
     → cluster_of new ≡ with_answer (cluster_of old) effect (with_snapshot snapshot)
+
+-- the last committed lease that the node answers to a fence, where the effect is one
+abbrev pub KeepsFenceAnswer : (repo storage lease : ℕ) → Option ℕ → Entries → Entries → Type 0
+KeepsFenceAnswer repo storage lease last old new = (effect : Effect) → effect.at.repo ≡ repo
+    → effect.at.storage ≡ storage → effect.lease ≡ lease
+    → cluster_of new ≡ with_answer (cluster_of old) effect (with_last last)

@@ -2,8 +2,8 @@
 
 ghost use Rattle.std.specs.Prelude.{◌≡◌, ◌==◌, IsSome, OnOk};
 ghost use Rattle.std.specs.Option.{option_copied};
-ghost use Rattle.px_cluster.specs.Ledger.{answered, with_commit, with_purpose, with_purposes};
-ghost use Rattle.px_cluster.specs.Ledger.{with_snapshot};
+ghost use Rattle.px_cluster.specs.Ledger.{answered, with_commit, with_last, with_purpose};
+ghost use Rattle.px_cluster.specs.Ledger.{with_purposes, with_snapshot};
 ghost use Rattle.px_cluster.specs.Numbers.{is_one_of};
 ghost use Rattle.genbook.specs.Changes.{numbers_of};
 ghost use Rattle.issued.specs.Draws.{HasRoom, KeepsRoom, kept_at, ledger_of, room_at};
@@ -11,7 +11,7 @@ ghost use Rattle.issued.specs.Purposes.{purpose_drawn};
 
 use crate::Purpose;
 use crate::draw::Draw;
-use crate::purpose::{Drawn, fresh, keep_answer, keep_commit, keep_snapshot};
+use crate::purpose::{Drawn, fresh, keep_answer, keep_commit, keep_fence_answer, keep_snapshot};
 use crate::room::make_room;
 use node_calls::Snapshot;
 use px_base::{Lease, RepoId, StorageId};
@@ -119,6 +119,17 @@ pub(crate) fn answer(draws: &mut Draws, draw: Draw)
 {
     if let Some(kept) = draws.get_mut(&draw) {
         keep_answer(kept);
+    }
+}
+
+/// The node answered a fence with the lease of the last push that it did.
+pub(crate) fn answer_fence(draws: &mut Draws, draw: Draw, last: Option<Lease>)
+    ensures { ledger_of draws.new.entries ≡ with_purpose (ledger_of draws.old.entries)
+        draw.repo.0 draw.storage.0 draw.lease
+        (with_last last (ledger_of draws.old.entries draw.repo.0 draw.storage.0 draw.lease)) }
+{
+    if let Some(kept) = draws.get_mut(&draw) {
+        keep_fence_answer(kept, last);
     }
 }
 

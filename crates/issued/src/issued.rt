@@ -1,6 +1,6 @@
 //! The effects that were issued, and the answers that are kept.
 
-ghost use Rattle.std.specs.Prelude.{◌≡◌, None, OnOk, false};
+ghost use Rattle.std.specs.Prelude.{◌≡◌, ◌∷◌, [], None, OnOk, false};
 ghost use Rattle.std.specs.Option.{option_copied, option_map};
 ghost use Rattle.px_cluster.specs.Cluster.{empty};
 ghost use Rattle.px_cluster.specs.Issues.{with_drawn};
@@ -8,15 +8,16 @@ ghost use Rattle.px_cluster.specs.Ledger as ledger;
 ghost use Rattle.genbook.specs.Changes.{numbers_of};
 ghost use Rattle.issued.specs.Draws.{HasRoom, ledger_of};
 ghost use Rattle.issued.specs.Issued.{HasPushRoom, HasWorkRoom, IssuesCommit, IssuesPush};
-ghost use Rattle.issued.specs.Issued.{KeepsAnswer, KeepsRoom, KeepsSnapshot, cluster_of};
-ghost use Rattle.issued.specs.Issued.{destination_of, pushed_of, target_of, with_work, worked_of};
+ghost use Rattle.issued.specs.Issued.{KeepsAnswer, KeepsFenceAnswer, KeepsRoom, KeepsSnapshot};
+ghost use Rattle.issued.specs.Issued.{cluster_of, destination_of, pushed_of, target_of};
+ghost use Rattle.issued.specs.Issued.{with_fence, with_work, worked_of};
 ghost use Rattle.issued.specs.Purposes.{number_of, purpose_drawn, purpose_of};
 
 use crate::Purpose;
 use crate::draw::Draw;
 use crate::draws::{self, Draws};
 use crate::purpose::{
-    Drawn, is_committed, is_delete_of, is_made, is_worked, snapshot_in, source_in,
+    Drawn, fence_answer, is_committed, is_delete_of, is_made, is_worked, snapshot_in, source_in,
 };
 use crate::pushes::{self, Pushes};
 use crate::works::{self, Works};
@@ -191,6 +192,21 @@ impl Issued {
         works::write(&mut self.works, job, repo, target);
     }
 
+    /// Issues a fence under a lease that is drawn for a storage. The room for it is that for the
+    /// lease at this one storage.
+    pub fn fences(&mut self, repo: RepoId, storage: StorageId, lease: Lease)
+        requires { HasRoom self.old.draws repo.0 (storage.0 ∷ []) lease }
+        ensures { cluster_of self.new
+            ≡ with_fence (cluster_of self.old) repo.0 storage.0 lease }
+    {
+        let draw = Draw {
+            repo,
+            storage,
+            lease,
+        };
+        draws::write(&mut self.draws, draw, Drawn::Fence);
+    }
+
     /// Issues the commit of a push under a lease for a storage, by the verdict. Where the lease was
     /// not drawn for a push there, nothing is issued.
     pub fn commits(&mut self, repo: RepoId, storage: StorageId, lease: Lease, verdict: &Verdict)
@@ -205,7 +221,8 @@ impl Issued {
     }
 
     /// Keeps that the node of a storage did what was issued under a lease: that it made the
-    /// replica, answered the commit of a push with a vote, or did what a job asks.
+    /// replica, answered the commit of a push with a vote, or did what a job asks. Of a fence it
+    /// keeps nothing: what a node answers to that is kept by `answers_fence`.
     pub fn answers(&mut self, repo: RepoId, storage: StorageId, lease: Lease)
         ensures { KeepsAnswer repo.0 storage.0 lease self.old self.new }
     {
@@ -215,6 +232,26 @@ impl Issued {
             lease,
         };
         draws::answer(&mut self.draws, draw);
+    }
+
+    /// Keeps what the node of a storage answered to the fence that was issued under a lease: the
+    /// lease of the last push that it did, or `None` where it did none. Where no fence was issued,
+    /// nothing is kept.
+    pub fn answers_fence(
+        &mut self,
+        repo: RepoId,
+        storage: StorageId,
+        lease: Lease,
+        last: Option<Lease>,
+    )
+        ensures { KeepsFenceAnswer repo.0 storage.0 lease last self.old self.new }
+    {
+        let draw = Draw {
+            repo,
+            storage,
+            lease,
+        };
+        draws::answer_fence(&mut self.draws, draw, last);
     }
 
     /// Keeps a snapshot for the update that was issued under a lease, in the place of an older one.
@@ -320,5 +357,19 @@ impl Issued {
             ≡ ledger.is_worked job.0 (ledger_of self.now.draws repo.0 storage.0 lease) }
     {
         is_worked(self.purpose(repo, storage, lease), job)
+    }
+
+    /// What the node of a storage answered to the fence under this lease: the lease of the last
+    /// push that it did, where it did one. `None` where it did not answer, or no fence was issued.
+    pub fn fence_answer(
+        &self,
+        repo: RepoId,
+        storage: StorageId,
+        lease: Lease,
+    ) -> Option<Option<Lease>>
+        ensures { result
+            ≡ ledger.fence_answer (ledger_of self.now.draws repo.0 storage.0 lease) }
+    {
+        fence_answer(self.purpose(repo, storage, lease))
     }
 }

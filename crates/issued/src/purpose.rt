@@ -2,12 +2,13 @@
 
 ghost use Rattle.std.specs.Prelude.{◌≡◌, Some};
 ghost use Rattle.std.specs.Option.{option_copied, option_map};
-ghost use Rattle.px_cluster.specs.Ledger.{answered, is_committed, is_delete_of, is_made, is_worked};
-ghost use Rattle.px_cluster.specs.Ledger.{snapshot_in, source_in, with_commit, with_snapshot};
+ghost use Rattle.px_cluster.specs.Ledger.{answered, fence_answer, is_committed, is_delete_of};
+ghost use Rattle.px_cluster.specs.Ledger.{is_made, is_worked, snapshot_in, source_in, with_commit};
+ghost use Rattle.px_cluster.specs.Ledger.{with_last, with_snapshot};
 ghost use Rattle.issued.specs.Purposes.{number_of, purpose_drawn, purpose_of};
 
 use node_calls::Snapshot;
-use px_base::{Gen, JobId, StorageId};
+use px_base::{Gen, JobId, Lease, StorageId};
 use voters::Verdict;
 
 /// What a lease was drawn for at a storage, and what is kept of it.
@@ -47,6 +48,12 @@ pub enum Purpose {
         /// Whether the node answered that it removed the replica.
         answered: bool,
     },
+    /// A fence.
+    Fence {
+        /// What the node answered: the lease of the last push that it did, or `None` in this where
+        /// it did none.
+        answer: Option<Option<Lease>>,
+    },
 }
 
 /// What a lease is drawn for, of which nothing is answered yet.
@@ -60,6 +67,8 @@ pub(crate) enum Drawn {
     Update(JobId, StorageId, Gen),
     /// A job that removes the replica.
     Delete(JobId),
+    /// A fence.
+    Fence,
 }
 
 /// The purpose of a lease that is just drawn.
@@ -84,10 +93,11 @@ pub(crate) fn fresh(what: Drawn) -> Purpose
             job,
             answered: false,
         },
+        Drawn::Fence => Purpose::Fence { answer: None },
     }
 }
 
-/// The node answered.
+/// The node answered. Of a fence nothing is kept by it.
 pub(crate) fn keep_answer(kept: &mut Option<Purpose>)
     ensures { purpose_of kept.new ≡ answered (purpose_of kept.old) }
 {
@@ -96,7 +106,16 @@ pub(crate) fn keep_answer(kept: &mut Option<Purpose>)
         Some(Purpose::Push { answered, .. }) => *answered = true,
         Some(Purpose::Update { answered, .. }) => *answered = true,
         Some(Purpose::Delete { answered, .. }) => *answered = true,
-        None => {}
+        Some(Purpose::Fence { .. }) | None => {}
+    }
+}
+
+/// The node answered a fence with the lease of the last push that it did.
+pub(crate) fn keep_fence_answer(kept: &mut Option<Purpose>, last: Option<Lease>)
+    ensures { purpose_of kept.new ≡ with_last last (purpose_of kept.old) }
+{
+    if let Some(Purpose::Fence { answer }) = kept {
+        *answer = Some(last);
     }
 }
 
@@ -124,9 +143,7 @@ pub(crate) fn is_made(kept: Option<&Purpose>) -> bool
 {
     match kept {
         Some(Purpose::Creation { made }) => *made,
-        Some(Purpose::Push { .. } | Purpose::Update { .. } | Purpose::Delete { .. }) | None => {
-            false
-        }
+        _ => false,
     }
 }
 
@@ -136,9 +153,7 @@ pub(crate) fn is_committed(kept: Option<&Purpose>) -> bool
 {
     match kept {
         Some(Purpose::Push { answered, .. }) => *answered,
-        Some(Purpose::Creation { .. } | Purpose::Update { .. } | Purpose::Delete { .. }) | None => {
-            false
-        }
+        _ => false,
     }
 }
 
@@ -150,7 +165,7 @@ pub(crate) fn is_worked(kept: Option<&Purpose>, number: JobId) -> bool
         Some(Purpose::Update { job, answered, .. } | Purpose::Delete { job, answered }) => {
             job.0 == number.0 && *answered
         }
-        Some(Purpose::Creation { .. } | Purpose::Push { .. }) | None => false,
+        _ => false,
     }
 }
 
@@ -160,9 +175,7 @@ pub(crate) fn is_delete_of(kept: Option<&Purpose>, number: JobId) -> bool
 {
     match kept {
         Some(Purpose::Delete { job, .. }) => job.0 == number.0,
-        Some(Purpose::Creation { .. } | Purpose::Push { .. } | Purpose::Update { .. }) | None => {
-            false
-        }
+        _ => false,
     }
 }
 
@@ -184,6 +197,16 @@ pub(crate) fn snapshot_in(kept: Option<&Purpose>, number: JobId) -> Option<&Snap
 {
     match kept {
         Some(Purpose::Update { job, snapshot, .. }) if job.0 == number.0 => snapshot.as_ref(),
+        _ => None,
+    }
+}
+
+/// What the node answered to a fence.
+pub(crate) fn fence_answer(kept: Option<&Purpose>) -> Option<Option<Lease>>
+    ensures { result ≡ fence_answer (purpose_of (option_copied kept.entry)) }
+{
+    match kept {
+        Some(Purpose::Fence { answer }) => *answer,
         _ => None,
     }
 }

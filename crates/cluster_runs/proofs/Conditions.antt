@@ -16,12 +16,12 @@ use Rattle.safe_states.proofs.Conditions.{late_voters_are_at_the_generation_befo
 use Rattle.safe_states.proofs.Reached.{every_state_has_the_invariant}
 use Rattle.cluster_history.specs.History.{Whole}
 use Rattle.cluster_history.specs.Seen.{decided_hash, seen_booking, seen_purpose, seen_push, seen_turn, state_of, vote_or_none}
-use Rattle.cluster_runs.specs.Conditions.{ConfirmersAreInDoubt, HasTurn, LateVotersAreAt, MembersAreAt}
+use Rattle.cluster_runs.specs.Conditions.{ConfirmersAreInDoubt, HasTurn, LateVotersAreAt, MembersAreAt, OneHasConfirmed}
 use Rattle.cluster_runs.specs.Safe.{IsSafeCluster}
 
 -- ---- bookings as they are seen
 
-gen_is : (one other : Gen) → one.0 ≡ other.0 → one ≡ other
+pub gen_is : (one other : Gen) → one.0 ≡ other.0 → one ≡ other
 gen_is one other same = ap (λ n. let g : Gen = record { 0 = n } in g) same
 
 at_is : (booked : BookedSo) (n : ℕ) → seen_booking booked ≡ At n → booked ≡ booking.At (gen n)
@@ -96,3 +96,11 @@ confirmers_are_in_doubt whole repo storage book push vote hash safe has decided 
       answered = committed_is (whole.history.read_at repo storage push.lease)
           (whole.cluster.ledger repo storage push.lease) answered;
     }))
+
+pub one_has_confirmed : OneHasConfirmed
+one_has_confirmed whole repo storage book push vote hash safe has decided at =
+    let is_safe = (safe.safe repo book has.there).push
+    (seen whole repo storage book push vote safe has)
+    (turn whole repo storage book push vote safe has) in
+    let one = is_safe.waits storage hash (ap decided_hash decided) (ap seen_booking at) in
+    (one.0, one.1, at_is (booking_on book one.0) book.newest one.2, one.3)

@@ -1,13 +1,14 @@
 -- What every move keeps: a repository stays on record, on its storages, and the transaction of a push
 -- leads on to where it led.
-use Rattle.std.proofs.Common.{◌≡◌, ◌≤◌, ◌+◌, ◌==◌, ◌⊎◌, ℕ, Option, Some, refl, sym, ◌∙◌, ap, subst, inl, inr, arith}
+use Rattle.std.proofs.Common.{◌≡◌, ◌≤◌, ◌+◌, ◌==◌, ◌⊎◌, ℕ, List, [], ◌∷◌, Option, Some, refl, sym, ◌∙◌, ap, subst, inl, inr, arith}
 use Rattle.px_ops.specs.declared.op.Op.{Op}
 use Rattle.px_ops.specs.declared.op.Op.TheVariants as op
-use Rattle.px_cluster.proofs.Growing.{left}
+use Rattle.px_cluster.proofs.Growing.{grows, left, stays}
+use Rattle.px_cluster.specs.Astray.{Move, MovesOn}
 use Rattle.px_cluster.specs.Book.{Repository}
 use Rattle.px_cluster.specs.Cluster.{Cluster, Destination, with_value}
-use Rattle.px_cluster.specs.Core.{repository}
-use Rattle.px_cluster.specs.Growth.{IsLater}
+use Rattle.px_cluster.specs.Core.{Core, repository}
+use Rattle.px_cluster.specs.Growth.{Grows, IsLater}
 use Rattle.px_cluster.specs.Ids.{repo_id}
 use Rattle.px_cluster.specs.Issues.{issues, issues_begin}
 use Rattle.px_cluster.specs.Ops.{left_by}
@@ -18,6 +19,7 @@ use Rattle.cluster_form.proofs.Lists.{bool, same_number}
 use Rattle.cluster_form.proofs.PushRoutes.{pushed_by}
 use Rattle.cluster_form.proofs.Uses.{uses_kept}
 use Rattle.cluster_form.proofs.WithinLists.{later_there}
+use Rattle.cluster_runs.specs.Later.{NewestNeverFalls}
 
 -- ---- repositories
 
@@ -54,6 +56,48 @@ on_record was repo = uses_kept (λ cluster. IsOn was cluster repo)
       later = even_later was is.now later.0 is.later later.2;
     })
     (λ old is. record { now = is.now; there = is.there; later = is.later })
+
+-- ---- the book, and numbers that were given
+
+grows_on : (a b c : Core) → Grows a b → Grows b c → Grows a c
+grows_on a b c first then_ = record {
+  books = λ repo book there.
+      let on = first.books repo book there in
+      let later = then_.books repo on.book on.there in
+      record {
+        book = later.book;
+        there = later.there;
+        later = even_later book on.book later.book on.later later.later;
+      };
+  last_tx = (let x = first.last_tx in let y = then_.last_tx in omega (arith, x, y));
+  last_job = (let x = first.last_job in let y = then_.last_job in omega (arith, x, y));
+}
+
+growth_stays : (start : Core) → IsKept (λ cluster. Grows start cluster.core)
+growth_stays start = uses_kept (λ cluster. Grows start cluster.core)
+    (λ old new core uses pushed worked is. subst (Grows start) (sym core) is)
+    (λ old asked none is. grows_on start old.core (left_by old.core asked) is
+    (grows old.core (left_by old.core asked) (left old.core asked)))
+    (λ old is. record {
+      books = λ repo book there.
+          let on = is.books repo book there in
+          record { book = on.book; there = on.there; later = on.later };
+      last_tx = is.last_tx;
+      last_job = is.last_job;
+    })
+
+grown_on : (start : Core) (old new : Cluster) (moves : List Move) → Grows start old.core
+    → MovesOn old moves new → Grows start new.core
+grown_on start old new [] grown is =
+    subst (λ (c : Cluster). Grows start c.core) (sym is) grown
+grown_on start old new (move ∷ moves) grown is =
+    grown_on start is.0 new moves (growth_stays start old is.0 move grown is.1) is.2
+
+pub newest_never_falls : NewestNeverFalls
+newest_never_falls old new moves is =
+    grown_on old.core old new moves (grows old.core old.core (stays old.core)) is
+
+-- ---- storages
 
 -- the storage stays one of the repository's virtual storage
 pub home_stays : (repo storage : ℕ) → IsKept (λ cluster. IsHome cluster.core repo storage)

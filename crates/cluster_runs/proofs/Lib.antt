@@ -7,7 +7,10 @@ pub mod Ledgers
 pub mod Wholes
 pub mod Runs
 pub mod Safe
+pub mod Current
+pub mod Deletes
 pub mod Later
 pub mod EachMove
 pub mod Conditions
 pub mod Empty
+pub mod Routes

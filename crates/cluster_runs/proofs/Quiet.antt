@@ -19,7 +19,7 @@ use Rattle.cluster_history.proofs.Books.{there_is_one}
 use Rattle.cluster_runs.proofs.Grown.{home_stays, itself, on_record}
 use Rattle.cluster_runs.proofs.Nodes.{NodesMove, calls, loses, stays}
 
-dense_is : (cluster : Cluster) (repo : ℕ) (book : Repository) → HasForm cluster
+pub dense_is : (cluster : Cluster) (repo : ℕ) (book : Repository) → HasForm cluster
     → repository cluster.core repo ≡ Some book → IsDense cluster.core.storages book
 dense_is cluster repo book form there =
     all_got (IsDense cluster.core.storages) cluster.core.repositories repo book

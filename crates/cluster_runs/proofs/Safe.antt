@@ -3,6 +3,7 @@ use Rattle.std.proofs.Common.{◌≡◌, ℕ, List, [], ◌∷◌, ◌++◌, Non
 use Rattle.node_calls.specs.ReplicaState.{NodeState}
 use Rattle.px_cluster.specs.Astray.{Move, MovesOn}
 use Rattle.px_cluster.specs.Cluster.{Cluster, Destination, starting_with}
+use Rattle.px_cluster.specs.Growth.{Grows}
 use Rattle.replica_invariant.specs.Contents.{Updates, Vote}
 use Rattle.safe_states.proofs.SafePush.{every_state_is_safe}
 use Rattle.cluster_form.specs.Homes.{IsHome}
@@ -12,7 +13,7 @@ use Rattle.cluster_history.specs.Seen.{state_of}
 use Rattle.cluster_runs.specs.Lists.{AreFit}
 use Rattle.cluster_runs.specs.Runs.{EachMoveGoesOn, starting}
 use Rattle.cluster_runs.specs.Safe.{EveryRunIsSafe, IsSafeCluster}
-use Rattle.cluster_runs.proofs.Grown.{home_stays}
+use Rattle.cluster_runs.proofs.Grown.{home_stays, newest_never_falls}
 use Rattle.cluster_runs.proofs.Runs.{IsKept, Ran, form_on, leads_on_to, run_on}
 use Rattle.cluster_runs.proofs.Texts.{LeadApart, prepared_after, prepared_before, text_in}
 
@@ -77,6 +78,8 @@ every_run_is_safe each node moves more old new fit lawful premise first then_ =
       safe_before = safe_cluster ran.now ran.kept;
       safe_after = safe_cluster on.now on.kept;
       follows = on.follows;
+      grows = subst (λ (c : Cluster). Grows ran.now.cluster.core c.core) (sym on.is)
+          (newest_never_falls ran.now.cluster new more again);
       homes = λ repo storage home. subst (λ (c : Cluster). IsHome c.core repo storage) (sym on.is)
           (homes_on repo storage more ran.now.cluster new home again);
     }

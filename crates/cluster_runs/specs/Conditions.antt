@@ -1,6 +1,6 @@
--- What the operations of the core need, and every state has: the voters of a decision are booked at
--- newest, and who comes late at the generation before; whoever confirms is in doubt under the push; and
--- no job is ahead of newest.
+-- What is so of a push that has the turn, in every state: the voters of a decision are booked at
+-- newest, and who comes late at the generation before; whoever confirms is in doubt under the push;
+-- and until one has, none is booked at newest.
 use Rattle.std.specs.Prelude.{◌≡◌, ◌+◌, ℕ, true, false, Some}
 use Rattle.px_base.specs.declared.hash.Hash.{Hash}
 use Rattle.px_ops.specs.declared.booking.Booking.TheVariants.{At, Doubt}
@@ -39,8 +39,8 @@ LateVotersAreAt = (whole : Whole) (repo storage : ℕ) (book : Repository) (push
     → is_told push vote storage ≡ false
     → (booking_on book storage ≡ At (gen push.begun)) × (book.newest ≡ push.begun + 1)
 
--- who is told, has not voted in the committed phase, and whose node answered the commit, is in doubt
--- under the lease of the push
+-- who is told, has not voted in the committed phase, and whose node answered the commit, is in
+-- doubt under the lease of the push
 abbrev pub ConfirmersAreInDoubt : Type 0
 ConfirmersAreInDoubt = (whole : Whole) (repo storage : ℕ) (book : Repository) (push : OpenPush)
     (vote : Voting) (hash : Hash) → IsSafeCluster whole → HasTurn whole repo book push vote
@@ -48,3 +48,13 @@ ConfirmersAreInDoubt = (whole : Whole) (repo storage : ℕ) (book : Repository) 
     → has_cast push vote storage ≡ false
     → is_committed (whole.cluster.ledger repo storage push.lease) ≡ true
     → booking_on book storage ≡ Doubt push.lease (gen push.begun) (gen (push.begun + 1))
+
+-- Where a replica is booked at newest once the push is decided, a member has confirmed: its node
+-- voted in the committed phase, and it is booked at newest. So between the decision and the first
+-- such vote none is.
+abbrev pub OneHasConfirmed : Type 0
+OneHasConfirmed = (whole : Whole) (repo storage : ℕ) (book : Repository) (push : OpenPush)
+    (vote : Voting) (hash : Hash) → IsSafeCluster whole → HasTurn whole repo book push vote
+    → prepared_outcome vote ≡ outcome.Commit hash → booking_on book storage ≡ At (gen book.newest)
+    → (member : ℕ) × (is_one_of member push.members ≡ true)
+    × (booking_on book member ≡ At (gen book.newest)) × (has_cast push vote member ≡ true)

@@ -6,6 +6,7 @@ use Rattle.px_cluster.specs.Astray.{Move, MovesOn}
 use Rattle.px_cluster.specs.Book.{Repository}
 use Rattle.px_cluster.specs.Cluster.{Cluster, starting_with}
 use Rattle.px_cluster.specs.Core.{repository}
+use Rattle.px_cluster.specs.Growth.{Grows}
 use Rattle.safe_states.specs.Happens.{IsReached}
 use Rattle.safe_states.specs.Safe.{IsSafe}
 use Rattle.cluster_form.specs.Form.{HasForm}
@@ -40,6 +41,8 @@ pub record AreSafeTogether (old new : Cluster) : Type 0 where
   pub safe_before : IsSafeCluster before
   pub safe_after : IsSafeCluster after
   pub follows : IsFollowed before after
+  -- each repository keeps its virtual storage and path, and newest and the last lease do not fall
+  pub grows : Grows before.cluster.core after.cluster.core
   -- a storage of the repository's virtual storage stays one
   pub homes : (repo storage : ℕ) → IsHome before.cluster.core repo storage
       → IsHome after.cluster.core repo storage

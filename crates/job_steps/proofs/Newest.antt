@@ -65,7 +65,7 @@ each_on storages book dense = all_on book.replicas (storages_rise storages book 
 -- ---- sources
 
 -- what is true of each replica that passes a test is true of their storages
-all_filtered : (P : Replica → Type 0) (Q : ℕ → Type 0) (test : Replica → Bool)
+pub all_filtered : (P : Replica → Type 0) (Q : ℕ → Type 0) (test : Replica → Bool)
     → ((r : Replica) → P r → test r ≡ true → Q r.storage) → (replicas : List Replica)
     → AllByRecursion P replicas
     → AllByRecursion Q (map (λ (r : Replica). r.storage) (filter test replicas))

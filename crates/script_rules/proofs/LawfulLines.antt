@@ -14,7 +14,10 @@ words_lawful : (event : Event) (words : List (List ℕ)) (handed : Prepared) →
     → prepared_by event ≡ Some handed → AreUpdates handed.push.updates
 words_lawful (script.Prepare tx name push) words handed (inl vote) is = absurd vote
 words_lawful (script.Prepare tx name push) words handed (inr (inl cluster)) is = absurd cluster.0
-words_lawful (script.Prepare tx name push) words handed (inr (inr (inr job))) is = absurd job.0
+words_lawful (script.Prepare tx name push) words handed (inr (inr (inr (inl job)))) is =
+    absurd job.0
+words_lawful (script.Prepare tx name push) words handed (inr (inr (inr (inr repair)))) is =
+    absurd repair.0
 words_lawful (script.Prepare tx name push) words handed (inr (inr (inl line))) is =
     let one : push ≡ handed.push = cc in
     subst (λ (p : Push). AreUpdates p.updates) one line.lawful.updates

@@ -8,7 +8,7 @@ use Rattle.script_run.specs.Machine.{IsDetermined}
 use Rattle.script_rules.specs.Machine.{Leads, machine, told}
 use Rattle.script_rules.specs.Resolved.{resolved}
 use Rattle.script_rules.specs.declared.answer.Answer.{Answer}
-use Rattle.script_rules.specs.declared.answer.Answer.TheVariants.{Replied, Done, Voted, Refs, Snapshot}
+use Rattle.script_rules.specs.declared.answer.Answer.TheVariants.{Replied, Done, Voted, Refs, Snapshot, Last}
 
 -- answers that are told alike are one answer
 told_is_one : (a b : Answer) → told a ≡ told b → a ≡ b
@@ -20,26 +20,37 @@ told_is_one (Snapshot r o) (Snapshot s p) same =
     let refs : r ≡ s = cc in
     let objects : o ≡ p = cc in
     λ i. Snapshot (refs i) (objects i)
+told_is_one (Last a) (Last b) same = (let is : a ≡ b = cc in ap Last is)
 told_is_one (Replied a) Done same = absurd (cc)
 told_is_one (Replied a) (Voted b) same = absurd (cc)
 told_is_one (Replied a) (Refs b) same = absurd (cc)
 told_is_one (Replied a) (Snapshot s p) same = absurd (cc)
+told_is_one (Replied a) (Last b) same = absurd (cc)
 told_is_one Done (Replied b) same = absurd (cc)
 told_is_one Done (Voted b) same = absurd (cc)
 told_is_one Done (Refs b) same = absurd (cc)
 told_is_one Done (Snapshot s p) same = absurd (cc)
+told_is_one Done (Last b) same = absurd (cc)
 told_is_one (Voted a) (Replied b) same = absurd (cc)
 told_is_one (Voted a) Done same = absurd (cc)
 told_is_one (Voted a) (Refs b) same = absurd (cc)
 told_is_one (Voted a) (Snapshot s p) same = absurd (cc)
+told_is_one (Voted a) (Last b) same = absurd (cc)
 told_is_one (Refs a) (Replied b) same = absurd (cc)
 told_is_one (Refs a) Done same = absurd (cc)
 told_is_one (Refs a) (Voted b) same = absurd (cc)
 told_is_one (Refs a) (Snapshot s p) same = absurd (cc)
+told_is_one (Refs a) (Last b) same = absurd (cc)
 told_is_one (Snapshot r o) (Replied b) same = absurd (cc)
 told_is_one (Snapshot r o) Done same = absurd (cc)
 told_is_one (Snapshot r o) (Voted b) same = absurd (cc)
 told_is_one (Snapshot r o) (Refs b) same = absurd (cc)
+told_is_one (Snapshot r o) (Last b) same = absurd (cc)
+told_is_one (Last a) (Replied b) same = absurd (cc)
+told_is_one (Last a) Done same = absurd (cc)
+told_is_one (Last a) (Voted b) same = absurd (cc)
+told_is_one (Last a) (Refs b) same = absurd (cc)
+told_is_one (Last a) (Snapshot s p) same = absurd (cc)
 
 one_leads : (old new then_ : Cluster) (asked : Result Happening Refusal) (a b : Answer)
     → Leads old asked (told a) new → Leads old asked (told b) then_ → (a ≡ b) × (new ≡ then_)

@@ -112,6 +112,16 @@ hands_as core (script.Apply job lease) =
     λ handed is. absurd (let z : None ≡ Some handed = is in cc)
 hands_as core (script.Remove job lease) =
     λ handed is. absurd (let z : None ≡ Some handed = is in cc)
+hands_as core (script.AcceptBegin repo name) =
+    none_handed (script.AcceptBegin repo name) name _ (storage_named core name) (λ storage. refl)
+hands_as core (script.SettleBegin repo name) =
+    none_handed (script.SettleBegin repo name) name _ (storage_named core name) (λ storage. refl)
+hands_as core (script.Fence name repo lease) =
+    none_handed (script.Fence name repo lease) name _ (storage_named core name) (λ storage. refl)
+hands_as core (script.Accept repo name lease) =
+    none_handed (script.Accept repo name lease) name _ (storage_named core name) (λ storage. refl)
+hands_as core (script.Settle repo name lease) =
+    none_handed (script.Settle repo name lease) name _ (storage_named core name) (λ storage. refl)
 
 -- it happens, or nothing does
 leads_by : (old new : Cluster) (event : Event) (asked : Result Happening Refusal) (answer : Answer)

@@ -4,3 +4,7 @@ pub mod Machine
 pub mod Scripts
 pub mod Prepared
 pub mod Laws
+pub mod Booked
+pub mod Commits
+pub mod Moves
+pub mod Complete

@@ -11,7 +11,7 @@ use Rattle.script_run.specs.Machine.{Machine as MachineOf}
 use Rattle.script_rules.specs.Resolved.{resolved}
 use Rattle.script_rules.specs.Texts.{text_of}
 use Rattle.script_rules.specs.declared.answer.Answer.{Answer}
-use Rattle.script_rules.specs.declared.answer.Answer.TheVariants.{Replied, Done, Voted, Refs, Snapshot}
+use Rattle.script_rules.specs.declared.answer.Answer.TheVariants.{Replied, Done, Voted, Refs, Snapshot, Last}
 
 -- the answer, as the cluster gives it
 abbrev pub told : Answer → Told
@@ -20,6 +20,7 @@ told Done = cluster.Delivered
 told (Voted hash) = cluster.Voted hash
 told (Refs refs) = cluster.RefsAre refs
 told (Snapshot refs objects) = cluster.SnapshotIs refs objects
+told (Last last) = cluster.LastIs last
 
 -- what happens is answered so, and leads from old to new; where nothing happens, the refusal is
 -- answered, and nothing changes

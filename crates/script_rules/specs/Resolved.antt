@@ -44,3 +44,13 @@ resolved core (script.Take name now) =
 resolved core (script.Snapshot job lease) = Ok (cluster.TakeSnapshot job.0 lease)
 resolved core (script.Apply job lease) = Ok (cluster.Apply job.0 lease)
 resolved core (script.Remove job lease) = Ok (cluster.Remove job.0 lease)
+resolved core (script.AcceptBegin repo name) =
+    at_named core name (λ storage. cluster.Asks (op.AcceptBegin repo (storage_id storage)))
+resolved core (script.SettleBegin repo name) =
+    at_named core name (λ storage. cluster.Asks (op.SettleBegin repo (storage_id storage)))
+resolved core (script.Fence name repo lease) =
+    at_named core name (λ storage. cluster.Fence storage repo.0 lease)
+resolved core (script.Accept repo name lease) =
+    at_named core name (λ storage. cluster.Asks (op.Accept repo (storage_id storage) lease))
+resolved core (script.Settle repo name lease) =
+    at_named core name (λ storage. cluster.Settled repo.0 storage lease)

@@ -1,6 +1,6 @@
 //! What is answered to an event of a script.
 
-use px_base::{Hash, RefList};
+use px_base::{Hash, Lease, RefList};
 use px_ops::Reply;
 
 /// What is answered to an event of a script.
@@ -25,4 +25,6 @@ pub enum Answer {
         /// How many objects they lead to.
         objects: u64,
     },
+    /// A node was fenced: the lease of the last push that it committed, where it did one.
+    Last(Option<Lease>),
 }

@@ -2,11 +2,11 @@
 
 ghost use Rattle.std.specs.Prelude.{◌≡◌, ◌++◌, ◌∷◌, OnOk};
 ghost use Rattle.px_ops.specs.BookingTexts.{each_after_space};
-ghost use Rattle.script_rules.specs.Texts.{ref_text, snapshot_text, text_of};
+ghost use Rattle.script_rules.specs.Texts.{last_text, ref_text, snapshot_text, text_of};
 
 use crate::Answer;
 use itoa::Buffer;
-use px_base::{Bytes, Hash, RefName};
+use px_base::{Bytes, Hash, Lease, RefName};
 use px_ops::add_reply;
 use std::alloc::AllocError;
 
@@ -41,6 +41,20 @@ fn add_snapshot(text: &mut Bytes, refs: u64, objects: u64) -> Result<(), AllocEr
     text.extend_from_slice(digits.format(objects).as_bytes())
 }
 
+// Adds the last lease that a node committed, or '-' for none.
+fn add_last(text: &mut Bytes, last: Option<Lease>) -> Result<(), AllocError>
+    ensures { OnOk result (text.new ≡ text.old ++ last_text last) }
+{
+    match last {
+        Some(lease) => {
+            let mut digits = Buffer::new();
+            text.extend_from_slice(b"last ")?;
+            text.extend_from_slice(digits.format(lease.number()).as_bytes())
+        }
+        None => text.extend_from_slice(b"last -"),
+    }
+}
+
 /// Adds the line that is printed of an answer, with its line feed. Where memory wants, a part of it may
 /// stand there.
 pub fn add_line(text: &mut Bytes, answer: &Answer) -> Result<(), AllocError>
@@ -58,6 +72,7 @@ pub fn add_line(text: &mut Bytes, answer: &Answer) -> Result<(), AllocError>
             add_each_ref(text, refs.as_slice())?;
         }
         Answer::Snapshot { refs, objects } => add_snapshot(text, *refs, *objects)?,
+        Answer::Last(last) => add_last(text, *last)?,
     }
     text.push(b'\n')
 }

@@ -18,8 +18,9 @@ use Rattle.px_cluster.specs.Issues.{issues}
 use Rattle.px_cluster.specs.Ops.{answer_of, left_by, next_core, refusal_of, reply_of, told, unless_refused}
 use Rattle.px_cluster.specs.Refusals.{cause}
 use Rattle.px_cluster.specs.Step.{Step}
-use Rattle.px_core.specs.Served.{IsServed}
-use Rattle.px_world.specs.Asked.{IsAdmission}
+use Rattle.script_rules.specs.Machine.{told as tells}
+use Rattle.script_rules.specs.declared.answer.Answer.{Answer}
+use Rattle.px_world.specs.Asked.{IsAdmission, not_acked}
 use Rattle.px_world.specs.Plain.{IsPlain}
 use Rattle.px_world.specs.World.{world}
 
@@ -95,37 +96,65 @@ module _ (core new : Core) (nodes : NodesState) (was : Entries) (asked : Op) (an
             ∙ ap (λ r. unless_refused r here (done_in here asked)) (sym (own ∙ is));
       }
 
+-- ---- where they did not give it: what refuses the operation comes first
+
+none_given : (given : Bool) → (own : Option Refusal) → given ≡ false
+    → option_or own (cause (not given) NotAcked) ≡ option_or own (Some NotAcked)
+none_given true own is = absurd (let z : true ≡ false = is in cc)
+none_given false own is = refl
+
+pub not_answered : (cluster : Cluster) (asked : Op) (answer : Answer)
+    → is_answered cluster asked ≡ false → answer ≡ not_acked (refusal_of cluster.core asked)
+    → Step cluster (Asks asked) (tells answer) cluster
+not_answered cluster asked answer answered is =
+    by (refusal_of cluster.core asked) is
+    (none_given (is_answered cluster asked) (refusal_of cluster.core asked) answered)
+  where
+    by : (own : Option Refusal) → answer ≡ not_acked own
+        → event_refusal cluster asked ≡ option_or own (Some NotAcked)
+        → Step cluster (Asks asked) (tells answer) cluster
+    by None told_so refuses = record {
+      replied = ap tells told_so
+          ∙ ap (λ r. Replied (told r (answer_of cluster.core asked))) (sym refuses);
+      leads = ap (λ r. unless_refused r cluster (done_in cluster asked)) (sym refuses);
+    }
+    by (Some why) told_so refuses = record {
+      replied = ap tells told_so
+          ∙ ap (λ r. Replied (told r (answer_of cluster.core asked))) (sym refuses);
+      leads = ap (λ r. unless_refused r cluster (done_in cluster asked)) (sym refuses);
+    }
+
 -- ---- operations that speak of no node
 
-plain_answered : (cluster : Cluster) (asked : Op) → IsServed asked → IsPlain asked
+plain_answered : (cluster : Cluster) (asked : Op) → IsPlain asked
     → is_answered cluster asked ≡ true
-plain_answered cluster (op.Enrol repo storage lease) served is = absurd is
-plain_answered cluster (op.Cast tx voter Prepared hash) served is = refl
-plain_answered cluster (op.Cast tx voter Committed hash) served is = absurd is
-plain_answered cluster (op.Ack job lease true) served is = absurd is
-plain_answered cluster (op.Ack job lease false) served is = refl
-plain_answered cluster (op.Accept repo storage lease) served is = absurd served
-plain_answered cluster (op.Settle repo storage lease last) served is = absurd served
-plain_answered cluster other served is = refl
+plain_answered cluster (op.Enrol repo storage lease) is = absurd is
+plain_answered cluster (op.Cast tx voter Prepared hash) is = refl
+plain_answered cluster (op.Cast tx voter Committed hash) is = absurd is
+plain_answered cluster (op.Ack job lease true) is = absurd is
+plain_answered cluster (op.Ack job lease false) is = refl
+plain_answered cluster (op.Accept repo storage lease) is = absurd is
+plain_answered cluster (op.Settle repo storage lease last) is = absurd is
+plain_answered cluster other is = refl
 
-plain_issues : (cluster : Cluster) (asked : Op) → IsServed asked → IsPlain asked
+plain_issues : (cluster : Cluster) (asked : Op) → IsPlain asked
     → issues cluster asked ≡ cluster
-plain_issues cluster (op.Create virt path factor) served is = absurd is
-plain_issues cluster (op.Begin repo) served is = absurd is
-plain_issues cluster (op.Collect tx voter sub) served is = absurd is
-plain_issues cluster (op.Dequeue target now) served is = absurd is
-plain_issues cluster (op.AcceptBegin repo storage) served is = absurd served
-plain_issues cluster (op.SettleBegin repo storage) served is = absurd served
-plain_issues cluster other served is = refl
+plain_issues cluster (op.Create virt path factor) is = absurd is
+plain_issues cluster (op.Begin repo) is = absurd is
+plain_issues cluster (op.Collect tx voter sub) is = absurd is
+plain_issues cluster (op.Dequeue target now) is = absurd is
+plain_issues cluster (op.AcceptBegin repo storage) is = absurd is
+plain_issues cluster (op.SettleBegin repo storage) is = absurd is
+plain_issues cluster other is = refl
 
 pub plain_happens : (core new : Core) (nodes : NodesState) (was : Entries) (asked : Op)
     (answer : Reply) → answer ≡ reply_of core asked → new ≡ next_core core asked
-    → IsServed asked → IsPlain asked
+    → IsPlain asked
     → Step (world core nodes was) (Asks asked) (Replied answer) (world new nodes was)
-plain_happens core new nodes was asked answer replied leads served is =
+plain_happens core new nodes was asked answer replied leads is =
     answered_happens core new nodes was asked answer replied leads
-    (plain_answered (world core nodes was) asked served is)
-    (plain_issues (world core nodes was) asked served is)
+    (plain_answered (world core nodes was) asked is)
+    (plain_issues (world core nodes was) asked is)
 
 -- ---- the taking in of a storage
 

@@ -1,6 +1,7 @@
 -- What operations issue to nodes and tell of them, by what is read of the core.
-use Rattle.std.specs.Prelude.{ℕ, Bool, true, false, Option, None, Some}
+use Rattle.std.specs.Prelude.{◌≡◌, ℕ, Bool, true, false, Option, None, Some}
 use Rattle.px_base.specs.declared.hash.Hash.{Hash}
+use Rattle.px_base.specs.declared.ids.RepoId.{RepoId}
 use Rattle.px_base.specs.declared.ids.StorageId.{StorageId}
 use Rattle.px_ops.specs.declared.op.Op.{Op}
 use Rattle.px_ops.specs.declared.op.Op.TheVariants as op
@@ -68,3 +69,13 @@ HasRoomForWork entries work =
 abbrev pub issues_to_target : Cluster → Work → Cluster
 issues_to_target cluster work = with_work cluster work.job.number.0 work.job.repo.0
     work.job.target.0 work.lease (purpose_from work work.source)
+
+-- ---- fences
+
+-- the operation draws a lease for a fence of the storage
+abbrev pub DrawsFence : Op → RepoId → StorageId → Type 0
+DrawsFence (op.AcceptBegin its_repo its_storage) repo storage =
+    (its_repo ≡ repo) × (its_storage ≡ storage)
+DrawsFence (op.SettleBegin its_repo its_storage) repo storage =
+    (its_repo ≡ repo) × (its_storage ≡ storage)
+DrawsFence other repo storage = ⊥

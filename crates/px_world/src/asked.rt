@@ -4,7 +4,6 @@ ghost use Rattle.std.specs.Prelude.{◌≡◌, IsSome};
 ghost use Rattle.px_ops.specs.declared.op.Op.TheVariants as operation;
 ghost use Rattle.px_cluster.specs.Events as cluster;
 ghost use Rattle.px_cluster.specs.Ops.{refusal_of};
-ghost use Rattle.px_core.specs.Served.{IsServed};
 ghost use Rattle.px_world.specs.Asked.{IsAdmission, not_acked};
 ghost use Rattle.px_world.specs.Plain.{IsPlain};
 ghost use Rattle.px_world.specs.Tries.{Happens};
@@ -17,7 +16,6 @@ use std::alloc::{AllocError, Global};
 impl World {
     /// Asks the core for an operation. Room for what it issues is taken first.
     pub(crate) fn ask(&mut self, alloc: Global, op: &Op) -> Result<Answer, AllocError>
-        requires { IsServed op.now }
         ensures { Happens self.old (cluster.Asks op.now) result self.new }
     {
         match op {
@@ -42,14 +40,26 @@ impl World {
                 lease,
                 good: true,
             } => self.complete(alloc, op, *job, *lease),
+            Op::AcceptBegin { repo, storage } => self.accept_begin_at(alloc, op, *repo, *storage),
+            Op::SettleBegin { repo, storage } => self.settle_begin_at(alloc, op, *repo, *storage),
+            Op::Accept {
+                repo,
+                storage,
+                lease,
+            } => self.accept_at(alloc, op, *repo, *storage, *lease),
+            Op::Settle {
+                repo,
+                storage,
+                lease,
+                last,
+            } => self.settle_at(alloc, op, *repo, *storage, *lease, *last),
             _ => self.ask_core(alloc, op),
         }
     }
 
     // An operation that speaks of no node.
     fn ask_core(&mut self, alloc: Global, op: &Op) -> Result<Answer, AllocError>
-        requires served { IsServed op.now }
-        requires plain { IsPlain op.now }
+        requires { IsPlain op.now }
         ensures { Happens self.old (cluster.Asks op.now) result self.new }
     {
         let reply = self.core.step(alloc, op)?;
@@ -94,8 +104,7 @@ impl World {
 
     /// An operation that is refused.
     pub(crate) fn ask_refused(&mut self, alloc: Global, op: &Op) -> Result<Answer, AllocError>
-        requires served { IsServed op.now }
-        requires refused { IsSome (refusal_of self.old.core op.now) }
+        requires { IsSome (refusal_of self.old.core op.now) }
         ensures { Happens self.old (cluster.Asks op.now) result self.new }
     {
         let reply = self.core.step(alloc, op)?;

@@ -3,7 +3,7 @@
 ghost use Rattle.std.specs.Prelude.{◌≡◌};
 ghost use Rattle.issued.specs.Draws.{ledger_of};
 ghost use Rattle.issued.specs.Purposes.{hash_in};
-ghost use Rattle.px_cluster.specs.Ledger.{commit_in, is_creation, is_push};
+ghost use Rattle.px_cluster.specs.Ledger.{commit_in, is_creation, is_fence, is_push};
 
 use issued::{Issued, Purpose};
 use px_base::{Lease, RepoId, StorageId};
@@ -15,9 +15,13 @@ pub(crate) fn is_creation(issued: &Issued, repo: RepoId, storage: StorageId, lea
 {
     match issued.purpose(repo, storage, lease) {
         Some(Purpose::Creation { .. }) => true,
-        Some(Purpose::Push { .. } | Purpose::Update { .. } | Purpose::Delete { .. }) | None => {
-            false
-        }
+        Some(
+            Purpose::Push { .. }
+            | Purpose::Update { .. }
+            | Purpose::Delete { .. }
+            | Purpose::Fence { .. },
+        )
+        | None => false,
     }
 }
 
@@ -27,9 +31,13 @@ pub(crate) fn is_push(issued: &Issued, repo: RepoId, storage: StorageId, lease: 
 {
     match issued.purpose(repo, storage, lease) {
         Some(Purpose::Push { .. }) => true,
-        Some(Purpose::Creation { .. } | Purpose::Update { .. } | Purpose::Delete { .. }) | None => {
-            false
-        }
+        Some(
+            Purpose::Creation { .. }
+            | Purpose::Update { .. }
+            | Purpose::Delete { .. }
+            | Purpose::Fence { .. },
+        )
+        | None => false,
     }
 }
 
@@ -44,8 +52,28 @@ pub(crate) fn verdict_of(
 {
     match issued.purpose(repo, storage, lease) {
         Some(Purpose::Push { commit, .. }) => *commit,
-        Some(Purpose::Creation { .. } | Purpose::Update { .. } | Purpose::Delete { .. }) | None => {
-            None
-        }
+        Some(
+            Purpose::Creation { .. }
+            | Purpose::Update { .. }
+            | Purpose::Delete { .. }
+            | Purpose::Fence { .. },
+        )
+        | None => None,
+    }
+}
+
+/// Whether a fence was issued under the lease.
+pub(crate) fn is_fence(issued: &Issued, repo: RepoId, storage: StorageId, lease: Lease) -> bool
+    ensures { result ≡ is_fence (ledger_of issued.now.draws repo.0 storage.0 lease) }
+{
+    match issued.purpose(repo, storage, lease) {
+        Some(Purpose::Fence { .. }) => true,
+        Some(
+            Purpose::Creation { .. }
+            | Purpose::Push { .. }
+            | Purpose::Update { .. }
+            | Purpose::Delete { .. },
+        )
+        | None => false,
     }
 }

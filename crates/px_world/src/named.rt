@@ -130,4 +130,84 @@ impl World {
         };
         self.ask(alloc, &Op::Dequeue { target, now })
     }
+
+    pub(crate) fn accept_begin(
+        &mut self,
+        alloc: Global,
+        repo: RepoId,
+        name: &StorageName,
+    ) -> Result<Answer, AllocError>
+        ensures { Tries self.old (script.AcceptBegin repo name.now) result self.new }
+    {
+        let Some(storage) = self.core.storage_of(name) else {
+            return Ok(unknown(name));
+        };
+        self.ask(alloc, &Op::AcceptBegin { repo, storage })
+    }
+
+    pub(crate) fn settle_begin(
+        &mut self,
+        alloc: Global,
+        repo: RepoId,
+        name: &StorageName,
+    ) -> Result<Answer, AllocError>
+        ensures { Tries self.old (script.SettleBegin repo name.now) result self.new }
+    {
+        let Some(storage) = self.core.storage_of(name) else {
+            return Ok(unknown(name));
+        };
+        self.ask(alloc, &Op::SettleBegin { repo, storage })
+    }
+
+    pub(crate) fn fence(
+        &mut self,
+        alloc: Global,
+        name: &StorageName,
+        repo: RepoId,
+        lease: Lease,
+    ) -> Result<Answer, AllocError>
+        ensures { Tries self.old (script.Fence name.now repo lease) result self.new }
+    {
+        let Some(storage) = self.core.storage_of(name) else {
+            return Ok(unknown(name));
+        };
+        self.fence_at(alloc, storage, repo, lease)
+    }
+
+    pub(crate) fn accept(
+        &mut self,
+        alloc: Global,
+        repo: RepoId,
+        name: &StorageName,
+        lease: Lease,
+    ) -> Result<Answer, AllocError>
+        ensures { Tries self.old (script.Accept repo name.now lease) result self.new }
+    {
+        let Some(storage) = self.core.storage_of(name) else {
+            return Ok(unknown(name));
+        };
+        self.ask(
+            alloc,
+            &Op::Accept {
+                repo,
+                storage,
+                lease,
+            },
+        )
+    }
+
+    pub(crate) fn settle(
+        &mut self,
+        alloc: Global,
+        repo: RepoId,
+        name: &StorageName,
+        lease: Lease,
+    ) -> Result<Answer, AllocError>
+        ensures { Tries self.old (script.Settle repo name.now lease) result self.new }
+    {
+        let Some(storage) = self.core.storage_of(name) else {
+            return Ok(unknown(name));
+        };
+        self.settle_as_answered(alloc, repo, storage, lease)
+    }
 }

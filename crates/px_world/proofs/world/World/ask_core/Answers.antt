@@ -10,7 +10,7 @@ use Rattle.px_world.proofs.world.World.ask_core.Goals as goal
 pub invariant_of-self-2 : goal.invariant_of-self-2
 invariant_of-self-2 c = nodes_stay c.self.inside.core c.step.new.self
     (state_of c.self.inside.nodes) c.args.op.now c.in_ok-reply.ensures.state
-    (plain_stays c.self.inside.core c.args.op.now c.requires.plain)
+    (plain_stays c.self.inside.core c.args.op.now c.requires)
     c.self.invariant
 
 pub returns : goal.returns
@@ -20,5 +20,4 @@ returns c =
     (Replied c.in_ok-reply.reply) (world c.step.new.self (state_of inside.nodes) inside.issued))
     c.self.view_is
     (plain_happens inside.core c.step.new.self (state_of inside.nodes) inside.issued c.args.op.now
-    c.in_ok-reply.reply c.in_ok-reply.ensures.reply c.in_ok-reply.ensures.state c.requires.served
-    c.requires.plain)
+    c.in_ok-reply.reply c.in_ok-reply.ensures.reply c.in_ok-reply.ensures.state c.requires)

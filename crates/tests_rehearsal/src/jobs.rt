@@ -122,7 +122,8 @@ fn a_delete_that_comes_late_is_fenced_off(rt: HostRuntime) -> Result<(), Fail> {
     play(alloc, &[TWO, BOTH_MADE, DELETE_GIVEN_UP, BEFORE_THE_UPDATE])
 }
 
-const TAKEN: &str = "\
+/// A worker takes the job that brings the third one up to date, and a snapshot for it.
+pub const TAKEN: &str = "\
     reconcile -> jobs 1:update:0:a>c
     take c 10 -> job 1 update 0 a>c gen 1 lease 3
     snapshot 1 3 -> snapshot 1 1";

@@ -2,6 +2,8 @@
 #![tactic(auto)]
 
 #[cfg(test)]
+mod accepting;
+#[cfg(test)]
 mod creations;
 #[cfg(test)]
 mod ends;
@@ -28,12 +30,18 @@ mod node_refusals;
 #[cfg(test)]
 mod pushes;
 #[cfg(test)]
+mod reads;
+#[cfg(test)]
 mod refusals;
+#[cfg(test)]
+mod repair_refusals;
 #[cfg(test)]
 mod rows;
 #[cfg(test)]
 mod runs;
 #[cfg(test)]
 mod scripts;
+#[cfg(test)]
+mod settling;
 #[cfg(test)]
 mod worlds;

@@ -65,6 +65,7 @@ fn operation(alloc: Global, op: &Op) -> Result<String, Fail> {
         }
         Op::Begin { repo } => format!(in alloc; "begins a push to {}", repo.0)?,
         Op::Finish { tx } => format!(in alloc; "finishes {}", tx.0)?,
+        Op::RouteRead { repo } => format!(in alloc; "who answers a read of {}", repo.0)?,
         Op::Booked { repo } => format!(in alloc; "what is booked of {}", repo.0)?,
         Op::Holder { repo } => format!(in alloc; "who has {}", repo.0)?,
         _ => job_operation(alloc, op)?,
@@ -74,6 +75,43 @@ fn operation(alloc: Global, op: &Op) -> Result<String, Fail> {
 // What is done for a job that was taken under a lease.
 fn by_lease(alloc: Global, word: &str, job: JobId, lease: Lease) -> Result<String, Fail> {
     Ok(format!(in alloc; "{word} of {} by {}", job.0, lease.number())?)
+}
+
+// What is asked of a replica that is settled or accepted, behind its storage and its repository.
+fn repair(alloc: Global, event: &Event) -> Result<String, Fail> {
+    Ok(match event {
+        Event::AcceptBegin { repo, name } => {
+            format!(in alloc; "{} of {} is to be accepted", named(name), repo.0)?
+        }
+        Event::SettleBegin { repo, name } => {
+            format!(in alloc; "{} of {} is to be settled", named(name), repo.0)?
+        }
+        Event::Fence { name, repo, lease } => {
+            format!(in alloc;
+                "{} of {} is fenced by {}",
+                named(name),
+                repo.0,
+                lease.number()
+            )?
+        }
+        Event::Accept { repo, name, lease } => {
+            format!(in alloc;
+                "{} of {} is accepted by {}",
+                named(name),
+                repo.0,
+                lease.number()
+            )?
+        }
+        Event::Settle { repo, name, lease } => {
+            format!(in alloc;
+                "{} of {} is settled by {}",
+                named(name),
+                repo.0,
+                lease.number()
+            )?
+        }
+        _ => format!(in alloc; "another event")?,
+    })
 }
 
 fn asked(alloc: Global, event: &Event) -> Result<String, Fail> {
@@ -99,6 +137,7 @@ fn asked(alloc: Global, event: &Event) -> Result<String, Fail> {
         Event::Snapshot { job, lease } => by_lease(alloc, "snapshot", *job, *lease)?,
         Event::Apply { job, lease } => by_lease(alloc, "apply", *job, *lease)?,
         Event::Remove { job, lease } => by_lease(alloc, "remove", *job, *lease)?,
+        _ => repair(alloc, event)?,
     })
 }
 
@@ -154,6 +193,32 @@ const GOOD_OF_JOBS: &str = "\
 #[test]
 fn lines_on_jobs_ask_for_their_events(rt: HostRuntime) -> Result<(), Fail> {
     play(rt.alloc(), &mut (), answer, GOOD_OF_JOBS)
+}
+
+// The words of a fence stand in another order than those of what it is for.
+const GOOD_OF_REPAIRS: &str = "\
+    line read 0 -> who answers a read of 0
+    line read 4294967295 -> who answers a read of 4294967295
+    line accept 0 a-1.b_2 -> a-1.b_2 of 0 is to be accepted
+    line accept 4294967295 7 -> 7 of 4294967295 is to be accepted
+    line settle 0 a -> a of 0 is to be settled
+    line settle 4294967295 a-1.b_2 -> a-1.b_2 of 4294967295 is to be settled
+    line fence a 0 0 -> a of 0 is fenced by 0
+    line fence 1 2 3 -> 1 of 2 is fenced by 3
+    line fence a 4294967295 18446744073709551614 \
+    -> a of 4294967295 is fenced by 18446744073709551614
+    line accepted 0 a 0 -> a of 0 is accepted by 0
+    line accepted 1 2 3 -> 2 of 1 is accepted by 3
+    line accepted 4294967295 a 18446744073709551614 \
+    -> a of 4294967295 is accepted by 18446744073709551614
+    line settled 0 a 0 -> a of 0 is settled by 0
+    line settled 1 2 3 -> 2 of 1 is settled by 3
+    line settled 4294967295 a 18446744073709551614 \
+    -> a of 4294967295 is settled by 18446744073709551614";
+
+#[test]
+fn lines_on_reads_and_repairs_ask_for_their_events(rt: HostRuntime) -> Result<(), Fail> {
+    play(rt.alloc(), &mut (), answer, GOOD_OF_REPAIRS)
 }
 
 // The greatest number of an object's name is 40 times f. The bytes of `Hi` are 72 and 105.
@@ -277,6 +342,39 @@ const BAD_OF_JOBS: &str = "\
     a sign: factor 0 +1
     two spaces: factor 0  1";
 
+// The same, of reads and repairs.
+const BAD_OF_REPAIRS: &str = "\
+    no repository to read: read
+    a repository to read above its range: read 4294967296
+    a storage to read: read 0 a
+    a name to read: read a
+    a leading zero: read 00
+    a space at the end: read 0\x20
+    no storage to accept: accept 0
+    a repository at the end: accept a 0
+    a lease to accept by: accept 0 a 1
+    a repository to accept above its range: accept 4294967296 a
+    no storage to settle: settle 0
+    a lease to settle by: settle 0 a 1
+    a repository to settle above its range: settle 4294967296 a
+    a slash in a name: settle 0 a/b
+    another case: Settle 0 a
+    two spaces: settle 0  a
+    no lease of a fence: fence a 0
+    a repository in front of a fence: fence 0 a 1
+    a word too many of a fence: fence a 0 1 1
+    a repository of a fence above its range: fence a 4294967296 1
+    a lease of a fence above its range: fence a 0 18446744073709551615
+    no lease that was accepted: accepted 0 a
+    a storage in front: accepted a 0 1
+    a lease that was accepted above its range: accepted 0 a 18446744073709551615
+    a word too many of what was accepted: accepted 0 a 1 1
+    no lease that was settled: settled 0 a
+    a storage in front of a settled one: settled a 0 1
+    a lease that was settled above its range: settled 0 a 18446744073709551615
+    a sign: settled 0 a +1
+    a last lease: settled 0 a 1 -";
+
 fn is_bad(alloc: Global, line: &str) -> bool {
     matches!(read_line(alloc, line.as_bytes()), ScriptLine::Bad)
 }
@@ -295,7 +393,8 @@ fn all_bad(alloc: Global, table: &str) -> Result<(), Fail> {
 #[test]
 fn a_line_in_another_form_is_bad(rt: HostRuntime) -> Result<(), Fail> {
     all_bad(rt.alloc(), BAD)?;
-    all_bad(rt.alloc(), BAD_OF_JOBS)
+    all_bad(rt.alloc(), BAD_OF_JOBS)?;
+    all_bad(rt.alloc(), BAD_OF_REPAIRS)
 }
 
 #[test]

@@ -11,8 +11,8 @@ use tests_tables::{compare, parts};
 // `git hash-object -t commit --literally`; `content` is that line, as xxd prints it. A vote is what
 // sha1sum makes of the lines that Git hands to its hook, by `printf '%s %s %s\n' OLD NEW REF | sha1sum`:
 // `vote` of the creation of refs/tags/empty as `empty`, `other` of that of refs/tags/one as `one`,
-// `moved` of the change of refs/tags/empty from `empty` to `one`, and `second` of its deletion and then
-// the creation of refs/heads/main as `commit`.
+// `two` of that of refs/tags/two as `empty`, `moved` of the change of refs/tags/empty from `empty` to
+// `one`, and `second` of its deletion and then the creation of refs/heads/main as `commit`.
 const WORDS: &str = "\
     zero 0000000000000000000000000000000000000000
     ones 1111111111111111111111111111111111111111
@@ -23,6 +23,7 @@ const WORDS: &str = "\
     content 7472656520346238323564633634326362366562396130363065353462663864363932383866626565343930340a
     vote 486a01e01b4248b74452b5a140fb221f9033e770
     other df3b997e03dbdf83384cd4eba5d59b36ad0f68d8
+    two 49255c48ade77b97fa22e0ff1d7ae2ccb4d63266
     moved 0a0d245e21025840c9f732bf95e6f9091cefe305
     second 00fab499e2208e290d1d371ef757119b9ef82f3d";
 

@@ -1,8 +1,5 @@
 //! Lines and events at a world, and what it answers.
 
-ghost use Rattle.std.specs.Prelude.{IfOk};
-ghost use Rattle.px_world.specs.Plain.{IsServedEvent};
-
 use px_base::{Bytes, JobId, Lease, MemSink, MemSource, RepoId, StorageName, TxId};
 use px_world::{Answer, Event, Op, Refusal, RehearseEnd, Reply, World, add_line, rehearse};
 use script_run::{Act, StateMachine};
@@ -29,9 +26,7 @@ fn act(alloc: Global, world: &mut World, line: &str) -> Result<String, Fail> {
 }
 
 // What is asked of the first job under the lease 2, or a taking of the next job of the storage `b`.
-fn job_event(word: &str) -> Result<Event, Fail>
-    ensures { IfOk result IsServedEvent }
-{
+fn job_event(word: &str) -> Result<Event, Fail> {
     let Some(lease) = Lease::new(2) else {
         return Err(Fail::new("no lease"));
     };
@@ -44,15 +39,28 @@ fn job_event(word: &str) -> Result<Event, Fail>
         "snapshot" => Event::Snapshot { job, lease },
         "apply" => Event::Apply { job, lease },
         "remove" => Event::Remove { job, lease },
-        _ => Event::Operation(Op::Ack { job, lease, good }),
+        "done" => Event::Operation(Op::Ack { job, lease, good }),
+        _ => repair_event(word, lease)?,
+    })
+}
+
+// What is asked of the storage `a` and the first repository, under a lease where there is one.
+fn repair_event(word: &str, lease: Lease) -> Result<Event, Fail> {
+    let (repo, name) = (RepoId(0), StorageName::read(b"a")?);
+    Ok(match word {
+        "read" => Event::Operation(Op::RouteRead { repo }),
+        "accept" => Event::AcceptBegin { repo, name },
+        "settle" => Event::SettleBegin { repo, name },
+        "fence" => Event::Fence { name, repo, lease },
+        "accepted" => Event::Accept { repo, name, lease },
+        "settled" => Event::Settle { repo, name, lease },
+        _ => return Err(Fail::new(format_args!("nothing is asked by {word}"))),
     })
 }
 
 // An event of which no text was read: an operation on the first transaction or the first repository, a
 // stop of the second transaction, or what is asked of the storage `a`.
-fn event(word: &str) -> Result<Event, Fail>
-    ensures { IfOk result IsServedEvent }
-{
+fn event(word: &str) -> Result<Event, Fail> {
     let (tx, sub, repo, name) = (TxId(1), 1, RepoId(0), StorageName::read(b"a")?);
     let op = match word {
         "collect" => Op::Collect {
@@ -84,9 +92,7 @@ fn replied(reply: &Reply) -> &'static str {
 }
 
 // The answer to an event, and its line.
-fn step(alloc: Global, world: &mut World, asked: &Event) -> Result<String, Fail>
-    requires { IsServedEvent asked.now }
-{
+fn step(alloc: Global, world: &mut World, asked: &Event) -> Result<String, Fail> {
     let answer = world.step(alloc, asked)?;
     let kind = match &answer {
         Answer::Replied(reply) => replied(reply),
@@ -94,6 +100,7 @@ fn step(alloc: Global, world: &mut World, asked: &Event) -> Result<String, Fail>
         Answer::Voted(_) => "vote",
         Answer::Refs(_) => "references",
         Answer::Snapshot { .. } => "snapshot",
+        Answer::Last(_) => "last",
     };
     let mut line = Bytes::new(alloc);
     add_line(&mut line, &answer)?;
@@ -152,6 +159,38 @@ const STEPS_OF_A_JOB: &str = "\
 fn the_steps_of_a_job_are_answered(rt: HostRuntime) -> Result<(), Fail> {
     let alloc = rt.alloc();
     play(alloc, &mut World::new(alloc), answer, STEPS_OF_A_JOB)
+}
+
+const STEPS_OF_A_REPAIR: &str = "\
+    step read -> refusal refused UnknownRepo
+    step accept -> refusal refused UnknownStorage a
+    step settle -> refusal refused UnknownStorage a
+    step fence -> refusal refused UnknownStorage a
+    step accepted -> refusal refused UnknownStorage a
+    step settled -> refusal refused UnknownStorage a
+    act storage default a -> before storage 0
+    act health a up -> before ok
+    act create default x.git 1 -> before created 0 lease 1 assigned a
+    step read -> refusal refused NoCurrentReplica 0 0
+    step accept -> refusal refused NotBooked
+    act make a 0 1 -> before done
+    act enrol 0 a 1 -> before ok
+    step read -> another route a gen 0
+    step settle -> refusal refused NotInDoubt
+    step fence -> refusal refused NotOut
+    step accept -> another lease 2
+    step accepted -> refusal refused NotAcked
+    step fence -> last last -
+    step settled -> refusal refused NotInDoubt
+    step accepted -> another gen 1
+    step read -> another route a gen 1
+    act settled 0 a 2 -> before refused NotInDoubt
+    act booked 0 -> before newest 1 a=at:1";
+
+#[test]
+fn the_steps_of_a_repair_are_answered(rt: HostRuntime) -> Result<(), Fail> {
+    let alloc = rt.alloc();
+    play(alloc, &mut World::new(alloc), answer, STEPS_OF_A_REPAIR)
 }
 
 #[test]

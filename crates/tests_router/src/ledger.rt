@@ -44,6 +44,13 @@ fn purpose(alloc: Global, purpose: Option<&Purpose>) -> Result<String, Fail> {
         Some(Purpose::Delete { job, answered }) => {
             Ok(format!(in alloc; "delete {} {answered}", job.0)?)
         }
+        Some(Purpose::Fence { answer: None }) => text(alloc, "fence"),
+        Some(Purpose::Fence { answer: Some(None) }) => text(alloc, "fence last -"),
+        Some(
+            Purpose::Fence {
+                answer: Some(Some(lease)),
+            },
+        ) => { Ok(format!(in alloc; "fence last {}", lease.number())?) }
         None => text(alloc, "-"),
     }
 }

@@ -7,6 +7,8 @@ mod book_calls;
 #[cfg(test)]
 mod books;
 #[cfg(test)]
+mod by_hand;
+#[cfg(test)]
 mod deliveries;
 #[cfg(test)]
 mod endings;

@@ -1,7 +1,6 @@
 //! The operations of the core, as lines, each answered by the text of its reply.
 
-ghost use Rattle.px_core.specs.Served.{IsServed};
-
+use crate::by_hand::by_hand;
 use crate::readings::read;
 use crate::words::{
     hash, lease, phase, repository, shown, storage, storage_name, transaction, words,
@@ -13,9 +12,8 @@ use std::alloc::Global;
 use std::test::Fail;
 use tests_tables::{compare, play};
 
-fn step(alloc: Global, core: &mut Core, asked: Op) -> Result<String, Fail>
-    requires { IsServed asked }
-{
+/// Does an operation, and gives the text of its reply.
+pub fn step(alloc: Global, core: &mut Core, asked: Op) -> Result<String, Fail> {
     shown(alloc, &core.step(alloc, &asked)?)
 }
 
@@ -174,6 +172,14 @@ fn call(alloc: Global, core: &mut Core, name: &str, rest: &str) -> Result<String
         "health" | "enrol" | "begin" | "booked" | "holder" => {
             by_numbers(alloc, core, name, &words)
         }
+        "lease_to_accept"
+        | "lease_to_settle"
+        | "may_accept"
+        | "may_settle"
+        | "accept_begin"
+        | "accept"
+        | "settle_begin"
+        | "settle" => by_hand(alloc, core, name, &words),
         "open" => open(alloc, core, &words),
         "cast" | "collect" | "withdraw" => of_voter(alloc, core, name, &words),
         "cancel" | "stop" | "close" | "finish" | "outcome" => of_votes(alloc, core, name, &words),
